@@ -1,0 +1,4 @@
+pub mod Gaps
+pub mod Quotes
+pub mod Words
+pub mod Finding

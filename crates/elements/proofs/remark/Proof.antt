@@ -1,0 +1,23 @@
+use borrow.Author.Needs.{needs}
+use Rattle.elements.proofs.remark.Statement.{statement}
+use Rattle.elements.proofs.remark.Tie as tie
+use Rattle.elements.proofs.Gaps.{unclosed-first, unclosed-second, closed}
+
+ruleset ways = (unclosed-first, unclosed-second, closed, needs)
+
+pub remark-spec : {M : Type 1} → statement M
+remark-spec =
+    tie.close
+    (tie.spec
+    (λ c. search ways)
+    (λ c κs. search ways)
+    (λ c κs. search ways)
+    (λ c κs. search ways)
+    (λ c. search ways)
+    (λ c. search ways)
+    (λ c κs. search ways)
+    (λ c κs. search ways)
+    (λ c. search ways)
+    (λ c. search ways)
+    (λ c κs. search ways)
+    (λ c. search ways))

@@ -1,0 +1,23 @@
+use borrow.Author.Needs.{needs}
+use Rattle.elements.proofs.symbol_at.Statement.{statement}
+use Rattle.elements.proofs.symbol_at.Tie as tie
+use Rattle.elements.proofs.Quotes.{symbol-broken, symbol-empty, symbol-long, symbol-closed}
+
+ruleset ways = (symbol-broken, symbol-empty, symbol-long, symbol-closed, needs)
+
+pub symbol-at-spec : {M : Type 1} → statement M
+symbol-at-spec =
+    tie.close
+    (tie.spec
+    (λ c. search ways)
+    (λ c κs. search ways)
+    (λ c κs. search ways)
+    (λ c κs. search ways)
+    (λ c. search ways)
+    (λ c. search ways)
+    (λ c. search ways)
+    (λ c. search ways)
+    (λ c. search ways)
+    (λ c. search ways)
+    (λ c. search ways)
+    (λ c. search ways))

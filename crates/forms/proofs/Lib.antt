@@ -1,0 +1,5 @@
+pub mod First
+pub mod Identifiers
+pub mod Numerals
+pub mod Reading
+pub mod Stamps

@@ -1,0 +1,26 @@
+-- A number, answer by answer. Assumes nothing.
+use borrow.Author.Needs.{needs}
+use Rattle.forms.proofs.numbers.number_at.Statement.{statement}
+use Rattle.forms.proofs.numbers.number_at.Tie as tie
+use Rattle.forms.proofs.Numerals.{number-none, number-whole, number-pointed, number-no-mantissa, number-scaled, number-signed, number-plain}
+
+ruleset ways = (number-none, number-whole, number-pointed, number-no-mantissa, number-scaled, number-signed, number-plain, needs)
+
+pub number-at-spec : {M : Type 1} → statement M
+number-at-spec =
+    tie.close
+    (tie.spec
+    (λ c κs. search needs)
+    (λ c. search ways)
+    (λ c. search ways)
+    (λ c. search needs)
+    (λ c κs. search needs)
+    (λ c. search ways)
+    (λ c κs. search needs)
+    (λ c. search ways)
+    (λ c. search needs)
+    (λ c κs. search needs)
+    (λ c. search ways)
+    (λ c. search ways)
+    (λ c κs. search needs)
+    (λ c. search ways))

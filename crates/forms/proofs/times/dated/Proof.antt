@@ -1,0 +1,21 @@
+-- What follows a date, answer by answer. Assumes nothing.
+use borrow.Author.Needs.{needs}
+use Rattle.forms.proofs.times.dated.Statement.{statement}
+use Rattle.forms.proofs.times.dated.Tie as tie
+use Rattle.forms.proofs.Stamps.{day-alone, day-upper, day-lower, day-other}
+
+ruleset ways = (day-alone, day-upper, day-lower, day-other, needs)
+
+pub dated-spec : {M : Type 1} → statement M
+dated-spec =
+    tie.close
+    (tie.spec
+    (λ c. search ways)
+    (λ c. search needs)
+    (λ c. search needs)
+    (λ c κs. search needs)
+    (λ c. search ways)
+    (λ c. search needs)
+    (λ c κs. search needs)
+    (λ c. search ways)
+    (λ c. search ways))

@@ -1,0 +1,83 @@
+-- The form of a word, as the code finds it, against the rules' pattern for words. Assumes nothing.
+use Prim.Native.Nat.{ℕ}
+use mathlib.Core.Bool.{Bool}
+use mathlib.Core.Option.{Option, none, some}
+use mathlib.Core.Path.{_≡_}
+use mathlib.Core.List.{List, map, _++_}
+use lib.ListN.{drop, length}
+use Rattle.rules.specs.Bytes.{fold, digit, between}
+use Rattle.rules.specs.Values.{Date as DateR, in-year, in-month, Zone as ZoneR, Second, Time, Written, an-identifier, a-whole, a-based, a-decimal, a-date, a-time, a-date-time, number, signed}
+use Rattle.rules.proofs.Words.Patterns.{G, stop, byte, check, run, fork, matches}
+use Rattle.rules.proofs.Words.Shapes.{is, some-of, any, g-scale, g-based, g-minutes, g-days, g-zone, g-dated}
+use Rattle.classes.specs.Places.{part}
+use Rattle.forms.specs.declared.Span.{Span}
+use Rattle.forms.specs.declared.Date.{Date}
+use Rattle.forms.specs.declared.Date.the-variants.{InYear, InMonth}
+use Rattle.forms.specs.declared.Clock.{Clock}
+use Rattle.forms.specs.declared.Zone.{Zone}
+use Rattle.forms.specs.declared.Stamp.{Stamp}
+use Rattle.forms.specs.declared.Stamp.the-variants.{Undated, Dated}
+use Rattle.forms.specs.declared.Form.{Form}
+use Rattle.forms.specs.declared.Form.the-variants.{NoForm, Name, Whole as WholeF, Radix, Decimal, Day, Moment}
+
+-- the bytes of a span
+abbrev pub on : List ℕ → Span → List ℕ
+on w p = part w (p .from) (p .upto)
+
+abbrev pub dateOf : List ℕ → Date → DateR
+dateOf w (InYear n) = in-year (number (part w 0 4)) (number (on w n))
+dateOf w (InMonth m d) = in-month (number (part w 0 4)) (number (on w m)) (number (on w d))
+
+abbrev pub zoneOf : List ℕ → Zone → ZoneR
+zoneOf w z = record { west = z .west; hours = number (on w (z .hours)); minutes = number (on w (z .minutes)) }
+
+abbrev pub clockOf : List ℕ → Clock → ZoneR → Time
+clockOf w c z = record { hour = number (on w (c .hour)); minute = number (on w (c .minute)); second = record { whole = number (on w (c .second)); decimals = on w (c .decimals) }; zone = z }
+
+abbrev pub stamped : List ℕ → Stamp → Time → Written
+stamped w Undated t = a-time t
+stamped w (Dated d) t = a-date-time (dateOf w d) t
+
+abbrev pub timeOf : List ℕ → Stamp → Clock → ZoneR → Written
+timeOf w s c z = stamped w s (clockOf w c z)
+
+-- what the code's answer says is written
+abbrev pub written : List ℕ → Form → Option Written
+written w NoForm = none
+written w Name = some (an-identifier (map fold w))
+written w (WholeF neg ds) = some (a-whole (signed neg (number (on w ds))))
+written w (Radix r neg ds) = some (a-based (number (on w r)) neg (on w ds))
+written w (Decimal neg ds fs below x) = some (a-decimal neg (on w ds) (on w fs) (signed below (number (on w x))))
+written w (Day d) = some (a-date (dateOf w d))
+written w (Moment s c z) = some (timeOf w s c (zoneOf w z))
+
+-- the answer to what stands from a place on, by the part of the pattern that is left
+pub record Reads (g : G) (w : List ℕ) (at : ℕ) (r : Form) : Type 0 where
+  pub reads : matches g (drop at w) ≡ written w r
+
+-- after the seconds of a time
+abbrev pub atSecond : List ℕ → Stamp → Span → Span → Second → G
+atSecond w s h m x = g-zone (λ z. stamped w s (record { hour = number (on w h); minute = number (on w m); second = x; zone = z }))
+
+-- after the day of a month
+abbrev pub inMonth : List ℕ → Span → List ℕ → G
+inMonth w m d = g-dated (in-month (number (part w 0 4)) (number (on w m)) (number d))
+
+-- after the digits of a based integer
+abbrev pub inRadix : List ℕ → Span → Bool → List ℕ → G
+inRadix w r neg ds = byte 35 (stop (a-based (number (on w r)) neg ds))
+
+-- after the digits of an exponent
+abbrev pub inPower : Bool → List ℕ → List ℕ → Bool → List ℕ → G
+inPower neg ds fs below x = stop (a-decimal neg ds fs (signed below (number x)))
+
+-- after the period of a real
+abbrev pub g-pointed : Bool → List ℕ → G
+g-pointed neg ds = run digit any (λ fs. check (some-of (length (ds ++ fs))) (g-scale (a-decimal neg ds fs)))
+
+-- after digits with no sign: what no number is
+abbrev pub g-plain : List ℕ → G
+g-plain ds =
+    fork (is 35) (check (some-of (length ds)) (byte 35 (g-based (number ds))))
+    (fork (is 58) (check (between 1 2 (length ds)) (byte 58 (g-minutes ds a-time)))
+    (check (between 4 4 (length ds)) (byte 45 (g-days ds))))

@@ -1,0 +1,234 @@
+// Times and dates at a place of a word: one function for each part of the pattern.
+use super::Clock;
+use super::Date;
+use super::Form;
+use super::Span;
+use super::Stamp;
+use super::Zone;
+use super::ends::counts;
+use super::ends::digits_end;
+use classes::byte_at;
+ghost use mathlib.Core.Bool.{false};
+ghost use Prim.Native.Nat.{_≤_};
+ghost use lib.ListN.{length};
+ghost use Rattle.rules.specs.Bytes.{digit, between};
+ghost use Rattle.rules.specs.Values.{utc};
+ghost use Rattle.rules.proofs.Words.Patterns.{run, stop};
+ghost use Rattle.rules.proofs.Words.Shapes.{g-days, g-dated, g-time, g-minutes, g-seconds, g-zone, g-offset};
+ghost use Rattle.classes.specs.Places.{part};
+ghost use Rattle.forms.specs.Forms.{Reads, timeOf, stamped, dateOf, on, atSecond, inMonth};
+
+// The zone of a time, behind its sign.
+fn zone_offset(w: &[u8], stamp: Stamp, clock: Clock, west: bool, at: usize) -> Form
+    requires { ⌜ at ≤ length (now w) ⌝ }
+    ensures { λ r. ⌜ Reads (g-offset west (λ z. timeOf (now (w .entry)) stamp clock z)) (now (w .entry)) at r ⌝ }
+{
+    let e = digits_end(w, at);
+    let hours = Span { from: at, upto: e };
+    if !counts(1, 2, at, e) {
+        return Form::NoForm;
+    }
+    if e == w.len() {
+        return Form::Moment(
+            stamp,
+            clock,
+            Zone {
+                west,
+                hours,
+                minutes: Span { from: 0, upto: 0 },
+            },
+        );
+    }
+    if byte_at(w, e) != 58 {
+        return Form::NoForm;
+    }
+    let q = e + 1;
+    let f = digits_end(w, q);
+    if !counts(1, 2, q, f) {
+        return Form::NoForm;
+    }
+    if f != w.len() {
+        return Form::NoForm;
+    }
+    Form::Moment(
+        stamp,
+        clock,
+        Zone {
+            west,
+            hours,
+            minutes: Span { from: q, upto: f },
+        },
+    )
+}
+
+// The end of a time with no offset.
+fn utc_end(w: &[u8], stamp: Stamp, clock: Clock, at: usize) -> Form
+    requires { ⌜ at ≤ length (now w) ⌝ }
+    ensures { λ r. ⌜ Reads (stop (timeOf (now (w .entry)) stamp clock utc)) (now (w .entry)) at r ⌝ }
+{
+    if at != w.len() {
+        return Form::NoForm;
+    }
+    let none = Span { from: 0, upto: 0 };
+    Form::Moment(
+        stamp,
+        clock,
+        Zone {
+            west: false,
+            hours: none,
+            minutes: none,
+        },
+    )
+}
+
+// What ends a time: nothing, Z, or an offset.
+fn zone_at(w: &[u8], stamp: Stamp, clock: Clock, at: usize) -> Form
+    requires { ⌜ at ≤ length (now w) ⌝ }
+    ensures { λ r. ⌜ Reads (g-zone (λ z. timeOf (now (w .entry)) stamp clock z)) (now (w .entry)) at r ⌝ }
+{
+    if at == w.len() {
+        return utc_end(w, stamp, clock, at);
+    }
+    let b = w[at];
+    if b == 90 {
+        return utc_end(w, stamp, clock, at + 1);
+    }
+    if b == 122 {
+        return utc_end(w, stamp, clock, at + 1);
+    }
+    if b == 45 {
+        return zone_offset(w, stamp, clock, true, at + 1);
+    }
+    if b == 43 {
+        return zone_offset(w, stamp, clock, false, at + 1);
+    }
+    Form::NoForm
+}
+
+// A time from the end of its minutes on.
+fn seconds(w: &[u8], stamp: Stamp, hour: Span, minute: Span, at: usize) -> Form
+    requires { ⌜ at ≤ length (now w) ⌝ }
+    ensures { λ r. ⌜ Reads (g-seconds (atSecond (now (w .entry)) stamp hour minute)) (now (w .entry)) at r ⌝ }
+{
+    let none = Span { from: 0, upto: 0 };
+    if byte_at(w, at) != 58 {
+        return zone_at(
+            w,
+            stamp,
+            Clock {
+                hour,
+                minute,
+                second: none,
+                decimals: none,
+            },
+            at,
+        );
+    }
+    let q = at + 1;
+    let e = digits_end(w, q);
+    if !counts(1, 2, q, e) {
+        return Form::NoForm;
+    }
+    let second = Span { from: q, upto: e };
+    if byte_at(w, e) != 46 {
+        return zone_at(
+            w,
+            stamp,
+            Clock {
+                hour,
+                minute,
+                second,
+                decimals: none,
+            },
+            e,
+        );
+    }
+    let p = e + 1;
+    let f = digits_end(w, p);
+    zone_at(
+        w,
+        stamp,
+        Clock {
+            hour,
+            minute,
+            second,
+            decimals: Span { from: p, upto: f },
+        },
+        f,
+    )
+}
+
+// A time from its minutes on.
+pub fn minutes(w: &[u8], stamp: Stamp, hour: Span, at: usize) -> Form
+    requires { ⌜ at ≤ length (now w) ⌝ }
+    ensures { λ r. ⌜ Reads (g-minutes (on (now (w .entry)) hour) (stamped (now (w .entry)) stamp)) (now (w .entry)) at r ⌝ }
+{
+    let e = digits_end(w, at);
+    if !counts(1, 2, at, e) {
+        return Form::NoForm;
+    }
+    seconds(w, stamp, hour, Span { from: at, upto: e }, e)
+}
+
+// A time from its hour on.
+fn time_at(w: &[u8], stamp: Stamp, at: usize) -> Form
+    requires { ⌜ at ≤ length (now w) ⌝ }
+    ensures { λ r. ⌜ Reads (g-time (stamped (now (w .entry)) stamp)) (now (w .entry)) at r ⌝ }
+{
+    let e = digits_end(w, at);
+    if !counts(1, 2, at, e) {
+        return Form::NoForm;
+    }
+    if byte_at(w, e) != 58 {
+        return Form::NoForm;
+    }
+    minutes(w, stamp, Span { from: at, upto: e }, e + 1)
+}
+
+// What follows a date: nothing, or T and a time.
+fn dated(w: &[u8], date: Date, at: usize) -> Form
+    requires { ⌜ at ≤ length (now w) ⌝ }
+    ensures { λ r. ⌜ Reads (g-dated (dateOf (now (w .entry)) date)) (now (w .entry)) at r ⌝ }
+{
+    if at == w.len() {
+        return Form::Day(date);
+    }
+    let b = w[at];
+    if b == 84 {
+        return time_at(w, Stamp::Dated(date), at + 1);
+    }
+    if b == 116 {
+        return time_at(w, Stamp::Dated(date), at + 1);
+    }
+    Form::NoForm
+}
+
+// A date from the day of its month on.
+fn month_day(w: &[u8], month: Span, at: usize) -> Form
+    requires { ⌜ at ≤ length (now w) ⌝ }
+    ensures { λ r. ⌜ Reads (run digit (between 1 2) (inMonth (now (w .entry)) month)) (now (w .entry)) at r ⌝ }
+{
+    let e = digits_end(w, at);
+    if !counts(1, 2, at, e) {
+        return Form::NoForm;
+    }
+    dated(w, Date::InMonth(month, Span { from: at, upto: e }), e)
+}
+
+// A date from the hyphen behind its year on.
+pub fn days(w: &[u8], at: usize) -> Form
+    requires { ⌜ at ≤ length (now w) ⌝ }
+    ensures { λ r. ⌜ Reads (g-days (part (now (w .entry)) 0 4)) (now (w .entry)) at r ⌝ }
+{
+    let e = digits_end(w, at);
+    if byte_at(w, e) == 45 {
+        if !counts(1, 2, at, e) {
+            return Form::NoForm;
+        }
+        return month_day(w, Span { from: at, upto: e }, e + 1);
+    }
+    if !counts(1, 3, at, e) {
+        return Form::NoForm;
+    }
+    dated(w, Date::InYear(Span { from: at, upto: e }), e)
+}

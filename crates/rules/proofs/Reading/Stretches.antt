@@ -1,0 +1,91 @@
+-- Every element's span lies inside the label, and its bytes are what the element is. Assumes nothing.
+use Prim.Native.Nat.{ℕ, _+_, _-_, _≤_}
+use native.Mathlib.Omega.{arith}
+use mathlib.Core.Bool.{Bool, true, not, _&&_}
+use mathlib.Core.Path.{_≡_, refl, sym, ap, subst, _∙_}
+use mathlib.Core.List.{List, [], _∷_, _++_, append-assoc, append-nil}
+use lib.Dec.{ltb, eqb}
+use lib.ListN.{length, length-append, take, drop}
+use lib.Seq.{take-at, drop-at}
+use Rattle.rules.specs.Bytes.{between, All}
+use Rattle.rules.specs.Data.{Span, Fixed, Elem, the, text, symbol, Placed, _on_, Row}
+use Rattle.rules.specs.Modes.{Mode}
+use Rattle.rules.specs.Words.{Form}
+use Rattle.rules.specs.Elements.{Spells, word, sign, one-star, two-stars, one-slash, quoted-text, quoted-symbol, Cut, none-more, next}
+use Rattle.rules.specs.Grammar.{strict, Label}
+pub use Rattle.rules.specs.Proper.{stretch}
+use Rattle.rules.proofs.Words.Runs.{run-all}
+use Rattle.rules.proofs.Reading.Rows.{Every, no-element, and-element, Rooted, label-from}
+
+-- what stands in an element's span
+pub data Holds (m : Mode) : Elem → List ℕ → Type 0 where
+  holds-word : {e : Elem} {w : List ℕ} {off : Bool} → Form m off w e → Holds m e w
+  holds-sign : {f : Fixed} {w : List ℕ} → Holds m (the f) w
+  holds-text : {w : List ℕ} → All (λ b. ltb b 128 && not (eqb b 34)) w → Holds m text w
+  holds-symbol : {w : List ℕ} → All (λ b. between 32 126 b && not (eqb b 39)) w → between 1 255 (length w) ≡ true → Holds m symbol w
+
+pub record Stands (m : Mode) (l : List ℕ) (e : Elem) (p : Span) : Type 0 where
+  pub order : p .from ≤ p .upto
+  pub inside : p .upto ≤ length l
+  pub content : Holds m e (stretch l p)
+
+-- an element's bytes without its quotes
+record Bare (m : Mode) (w : List ℕ) (e : Elem) (q : ℕ) : Type 0 where
+  before : List ℕ
+  bytes : List ℕ
+  behind : List ℕ
+  is : w ≡ before ++ (bytes ++ behind)
+  before-size : length before ≡ q
+  behind-size : length behind ≡ q
+  content : Holds m e bytes
+
+unquoted : {m : Mode} {w : List ℕ} {e : Elem} → Holds m e w → Bare m w e 0
+unquoted {w = w} h = record { before = []; bytes = w; behind = []; is = sym (append-nil w); before-size = refl; behind-size = refl; content = h }
+
+bare : {m : Mode} {w r : List ℕ} {e : Elem} {q : ℕ} → Spells m w e q r → Bare m w e q
+bare (word t f) = unquoted (holds-word f)
+bare (sign h) = unquoted holds-sign
+bare (one-star h) = unquoted holds-sign
+bare two-stars = unquoted holds-sign
+bare (one-slash h) = unquoted holds-sign
+bare (quoted-text {t} h) = record { before = 34 ∷ []; bytes = t; behind = 34 ∷ []; is = refl; before-size = refl; behind-size = refl; content = holds-text (run-all h) }
+bare (quoted-symbol {t} h k) =
+    record { before = 39 ∷ []; bytes = t; behind = 39 ∷ []; is = refl; before-size = refl; behind-size = refl; content = holds-symbol (run-all h) k }
+
+-- a part of a list, by its place
+part : (a b c : List ℕ) (from upto : ℕ) → length a ≡ from → upto - from ≡ length b → take (upto - from) (drop from (a ++ (b ++ c))) ≡ b
+part a b c from upto h k = rw (drop-at a (b ++ c) from h, k) (take-at b c (length b) refl)
+
+module _ (m : Mode) where
+  stands : (a g w l : List ℕ) (e : Elem) (q i : ℕ) → i ≡ length a → Bare m w e q →
+      Stands m (a ++ (g ++ (w ++ l))) e (record { from = i + length g + q; upto = i + length g + length w - q })
+  stands a g w l e q i h b =
+      let s : length w ≡ length (b .before) + (length (b .bytes) + length (b .behind)) =
+      ap length (b .is) ∙ length-append (b .before) (b .bytes ++ b .behind) ∙ ap (λ (n : ℕ). length (b .before) + n) (length-append (b .bytes) (b .behind)) in
+      let z : a ++ (g ++ (w ++ l)) ≡ (a ++ (g ++ b .before)) ++ (b .bytes ++ (b .behind ++ l)) =
+      ap (λ (t : List ℕ). a ++ (g ++ (t ++ l))) (b .is) ∙ simp append-assoc in
+      let f : length (a ++ (g ++ b .before)) ≡ i + length g + q =
+      length-append a (g ++ b .before) ∙ (let n = length-append g (b .before) in let o = b .before-size in omega arith) in
+      let k : i + length g + length w - q - (i + length g + q) ≡ length (b .bytes) = omega (arith, b .before-size, b .behind-size) in
+      let t : stretch (a ++ (g ++ (w ++ l))) (record { from = i + length g + q; upto = i + length g + length w - q }) ≡ b .bytes =
+      ap (λ (y : List ℕ). take (i + length g + length w - q - (i + length g + q)) (drop (i + length g + q) y)) z
+      ∙ part (a ++ (g ++ b .before)) (b .bytes) (b .behind ++ l) (i + length g + q) (i + length g + length w - q) f k in
+      record {
+        order = omega (arith, b .before-size, b .behind-size);
+        inside = omega (arith, length-append a (g ++ (w ++ l)), length-append g (w ++ l), length-append w l);
+        content = subst (Holds m e) (sym t) (b .content);
+      }
+
+  cut-stands : (a : List ℕ) {i j : ℕ} {l r : List ℕ} {es : List Placed} → i ≡ length a → Cut m i l es j r → Every (Stands m (a ++ l)) es
+  cut-stands a h none-more = no-element
+  cut-stands a {i} h (next {q = q} {l = l} {e = e} g w x s c) =
+      and-element (stands a g w l e q i h (bare s))
+      (simp append-assoc at (cut-stands (a ++ (g ++ w)) (omega (arith, length-append a (g ++ w), length-append g w)) c))
+
+  -- from the start
+  pub elements-stand : {i : ℕ} {l r : List ℕ} {es : List Placed} → Cut m 0 l es i r → Every (Stands m l) es
+  elements-stand c = cut-stands [] refl c
+
+  -- each row's span lies inside the label, and holds what the row's kind allows
+  pub rows-stand : {i : ℕ} {l r : List ℕ} {es : List Placed} {rows : List Row} → Cut m 0 l es i r → Label m strict es rows → Rooted (Stands m l) rows
+  rows-stand {l = l} c L = label-from (Stands m l) m strict L (elements-stand c)

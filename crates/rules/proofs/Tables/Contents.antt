@@ -1,0 +1,204 @@
+-- What a span may hold, as tests: each is true exactly of the bytes that the rules allow. Assumes nothing.
+use Prim.Native.Nat.{ℕ, _≤_}
+use Prim.Native.Char.{code as byte}
+use mathlib.Core.Bool.{Bool, true, false, cond, not, _&&_, false≢true}
+use mathlib.Core.Logic.{_↔_}
+use mathlib.Core.Option.{Option, none, some}
+use mathlib.Core.Path.{_≡_, refl, sym, ap, _∙_}
+use mathlib.Core.List.{List, [], _∷_, map}
+use native.Mathlib.Omega.{arith}
+use borrow.Author.Tests.{leb-true, ne-eqb}
+use lib.Dec.{leb, ltb, eqb}
+use lib.ListN.{length, length-map}
+use Rattle.rules.specs.Bytes.{ascii, between, digit, lower, letter, alnum, wordByte, fold, All}
+use Rattle.rules.specs.Bytes as Bytes
+use Rattle.rules.specs.Data.{Name, OBJECT, END-OBJECT, GROUP, END-GROUP, BEGIN-OBJECT, BEGIN-GROUP, Elem, name, the, end, integer, based, moment, range}
+use Rattle.rules.specs.Modes.{Mode}
+use Rattle.rules.specs.Values.{Written, an-identifier, number, signed, within, same, named, fits, inBase, each, radixKept, held, realKept, dayOf, timeKept, noDay, at, then, value}
+use Rattle.rules.specs.Words.{Range, from-to, More, no-more, plain, under, Identifier, identifier, Based, in-radix, Decimal, pointed, bare, DateTime, upper-T, lower-t, Shape, identifier-word, integer-word, based-word, real-word, date-word, time-word, date-time-word, range-word, Form}
+use Rattle.rules.specs.Written.{isIdentifier, aName, ofName, isName}
+use Rattle.rules.specs.Proper.{theRules, NameWord, TextBody, SymbolBody}
+use Rattle.rules.proofs.Words.Runs.{run-all, all-run}
+use Rattle.rules.proofs.Words.Identifiers.{identifier-sound, identifier-complete}
+use Rattle.rules.proofs.Tables.Tests.{and-true, and-left, and-right, or-first, or-case, not-as, between-in, between-out}
+
+-- ---- texts and symbols
+
+abbrev pub textByte : ℕ → Bool
+textByte b = ltb b 128 && not (eqb b (byte "\""))
+
+abbrev pub symbolByte : ℕ → Bool
+symbolByte b = between 32 126 b && not (eqb b (byte "'"))
+
+unfoldable pub isText : List ℕ → Bool
+isText w = each textByte w
+
+unfoldable pub isSymbol : List ℕ → Bool
+isSymbol w = each symbolByte w && between 1 255 (length w)
+
+pub all-passes : {c : ℕ → Bool} {s : List ℕ} → All c s → each c s ≡ true
+all-passes Bytes.none = refl
+all-passes (Bytes.one h hs) = and-true h (all-passes hs)
+
+pub passes-all : (c : ℕ → Bool) (s : List ℕ) → each c s ≡ true → All c s
+passes-all c [] h = Bytes.none
+passes-all c (b ∷ s) h = Bytes.one (and-left (c b) (each c s) h) (passes-all c s (and-right (c b) (each c s) h))
+
+pub text-body : (w : List ℕ) → TextBody w ↔ isText w ≡ true
+unfolding isText
+text-body w = (λ r. all-passes (run-all r), λ h. all-run (passes-all textByte w h) refl)
+
+pub symbol-body : (w : List ℕ) → SymbolBody w ↔ isSymbol w ≡ true
+unfolding isSymbol
+symbol-body w = (
+  λ s. and-true (all-passes (run-all (s .0))) (s .1),
+  λ h. (all-run (passes-all symbolByte w (and-left (each symbolByte w) (between 1 255 (length w)) h)) refl, and-right (each symbolByte w) (between 1 255 (length w)) h),
+)
+
+-- ---- names
+
+-- the tests of `named`, in their order, and the limit
+abbrev tests : List ℕ → Bool → Bool → Bool → Bool → Bool → Bool → Bool → Bool → Option Elem
+tests u o a b c d e f l =
+    cond a (some (end o)) (cond b (some (the OBJECT)) (cond c (some (the END-OBJECT)) (cond d (some (the GROUP)) (cond e (some (the END-GROUP)) (cond f (some (the BEGIN-OBJECT)) (within l (name u)))))))
+
+record Passed (u : List ℕ) (off a b c d e f l : Bool) : Type 0 where
+  is : tests u off a b c d e f l ≡ some (name u)
+  short : l ≡ true
+
+passed : (u : List ℕ) (off a b c d e f l : Bool) → ofName (tests u true a b c d e f l) ≡ true → Passed u off a b c d e f l
+passed u off true b c d e f l h = absurd (false≢true h)
+passed u off false true c d e f l h = absurd (false≢true h)
+passed u off false false true d e f l h = absurd (false≢true h)
+passed u off false false false true e f l h = absurd (false≢true h)
+passed u off false false false false true f l h = absurd (false≢true h)
+passed u off false false false false false true l h = absurd (false≢true h)
+passed u off false false false false false false true h = record { is = refl; short = refl }
+passed u off false false false false false false false h = absurd (false≢true h)
+
+named-name : (off : Bool) (u : List ℕ) → ofName (named false true u) ≡ true → (named false off u ≡ some (name u)) × (leb (length u) 60 ≡ true)
+named-name off u h =
+    let p = passed u off (same u (ascii "END")) (same u (ascii "OBJECT")) (same u (ascii "END_OBJECT")) (same u (ascii "GROUP")) (same u (ascii "END_GROUP")) (same u (ascii "BEGIN_OBJECT")) (leb (length u) 60) h in
+    (p .is, p .short)
+
+-- a name of any mode is one; whether END is set off does not matter
+wider : (u : List ℕ) (off a b c d e f g l : Bool) →
+    ofName (cond a (some (end off)) (cond b (some (the OBJECT)) (cond c (some (the END-OBJECT)) (cond d (some (the GROUP)) (cond e (some (the END-GROUP)) (cond f (some (the BEGIN-OBJECT)) (cond g (some (the BEGIN-GROUP)) (within l (name u))))))))) ≡ true →
+    ofName (tests u true a b c d e f l) ≡ true
+wider u off true b c d e f g l h = absurd (false≢true h)
+wider u off false true c d e f g l h = absurd (false≢true h)
+wider u off false false true d e f g l h = absurd (false≢true h)
+wider u off false false false true e f g l h = absurd (false≢true h)
+wider u off false false false false true f g l h = absurd (false≢true h)
+wider u off false false false false false true g l h = absurd (false≢true h)
+wider u off false false false false false false true l h = absurd (false≢true h)
+wider u off false false false false false false false l h = h
+
+named-wider : (pvl off : Bool) (u : List ℕ) → ofName (named pvl off u) ≡ true → ofName (named false true u) ≡ true
+named-wider pvl off u h =
+    wider u off (same u (ascii "END")) (same u (ascii "OBJECT")) (same u (ascii "END_OBJECT")) (same u (ascii "GROUP")) (same u (ascii "END_GROUP")) (same u (ascii "BEGIN_OBJECT")) (pvl && same u (ascii "BEGIN_GROUP"))
+    (leb (length u) 60) h
+
+-- a name as it stands is the element of its folded word
+pub name-word : (off : Bool) (w : List ℕ) → isName w ≡ true → Form theRules off w (name (map fold w))
+unfolding isName
+name-word off w h =
+    (an-identifier (map fold w), identifier-word (identifier-sound w (and-left (isIdentifier w) _ h)), named-name off (map fold w) (and-right (isIdentifier w) _ h) .0)
+
+-- what is no name
+never-within : (t : Bool) (x : Elem) → aName x ≡ false → ofName (within t x) ≡ true → ⊥
+never-within true x e h = false≢true (sym e ∙ h)
+never-within false x e h = false≢true h
+
+never-then : {A : Type 0} (o : Option A) (f : A → Option Elem) → ((a : A) → ofName (f a) ≡ true → ⊥) → ofName (then o f) ≡ true → ⊥
+never-then none f k h = false≢true h
+never-then (some a) f k h = k a h
+
+module _ (m : Mode) where
+  based-never : (off : Bool) {w : List ℕ} {v : Written} → Based w v → ofName (value m off v) ≡ true → ⊥
+  based-never off (in-radix {r = r} {ds = ds} {neg = neg} a b c d) h =
+      let n = inBase (number r) 0 ds in never-within (radixKept (number r) ds && fits (signed neg n)) (based (signed neg n)) refl h
+
+  decimal-never : (off : Bool) {w : List ℕ} {v : Written} → Decimal w v → ofName (value m off v) ≡ true → ⊥
+  decimal-never off (pointed {ds = ds} {fs = fs} {neg = neg} {z = z} sg a b l x) h = never-then (realKept (held neg ds fs z)) _ (λ y. false≢true) h
+  decimal-never off (bare {ds = ds} {neg = neg} {z = z} sg a x) h = never-then (realKept (held neg ds [] z)) _ (λ y. false≢true) h
+
+  both-never : (off : Bool) {w : List ℕ} {v : Written} → DateTime w v → ofName (value m off v) ≡ true → ⊥
+  both-never off (upper-T {da = d} {ti = t} x y) h = never-then (dayOf d) _ (λ z. never-within (timeKept t) (moment (at 3 z t)) refl) h
+  both-never off (lower-t {da = d} {ti = t} x y) h = never-then (dayOf d) _ (λ z. never-within (timeKept t) (moment (at 3 z t)) refl) h
+
+  range-never : (off : Bool) {w : List ℕ} {v : Written} → Range w v → ofName (value m off v) ≡ true → ⊥
+  range-never off (from-to {ds = ds} {neg = neg} {hi = hi} x y z) h = never-within (fits (signed neg (number ds)) && fits hi) (range (signed neg (number ds)) hi) refl h
+
+  shape-name : (off : Bool) {w : List ℕ} {v : Written} → Shape m w v → ofName (value m off v) ≡ true → isName w ≡ true
+  unfolding isName
+  shape-name off (identifier-word {w} i) h = and-true (identifier-complete i) (named-wider (m .pvl) off (map fold w) h)
+  shape-name off (integer-word {n = n} i) h = absurd (never-within (fits n) (integer n) refl h)
+  shape-name off (based-word x) h = absurd (based-never off x h)
+  shape-name off (real-word x) h = absurd (decimal-never off x h)
+  shape-name off (date-word {d = d} x) h = absurd (never-then (dayOf d) _ (λ y. false≢true) h)
+  shape-name off (time-word {t = t} x) h = absurd (never-within (timeKept t) (moment (at 2 noDay t)) refl h)
+  shape-name off (date-time-word x) h = absurd (both-never off x h)
+  shape-name off (range-word e r) h = absurd (range-never off r h)
+
+  pub form-name : (off : Bool) (w : List ℕ) {n : Name} → Form m off w (name n) → isName w ≡ true
+  form-name off w f = shape-name off (f .1) (ap ofName (f .2))
+
+pub name-test : (w : List ℕ) → NameWord w ↔ isName w ≡ true
+name-test w = (λ f. form-name theRules true w (f .1), λ h. (map fold w, name-word true w h))
+
+-- ---- names are symbols too
+
+letter-symbol : (b : ℕ) → alnum b ≡ true → symbolByte b ≡ true
+letter-symbol b h =
+    let in-range : (lo hi : ℕ) → 40 ≤ lo → hi ≤ 126 → between lo hi b ≡ true → symbolByte b ≡ true =
+    λ lo hi k l e. let r = between-out lo hi b e in and-true (between-in 32 126 b (omega arith) (omega arith)) (not-as (eqb b 39) (ne-eqb b 39 (λ q. omega arith))) in
+    or-case (letter b) (digit b) _ h (λ e. or-case (between 65 90 b) (lower b) _ e (in-range 65 90 (omega arith) (omega arith)) (in-range 97 122 (omega arith) (omega arith))) (in-range 48 57 (omega arith) (omega arith))
+
+more-symbol : {s : List ℕ} → More s → All symbolByte s
+more-symbol no-more = Bytes.none
+more-symbol (plain {b} h hs) = Bytes.one (letter-symbol b h) (more-symbol hs)
+more-symbol (under {b} h hs) = Bytes.one refl (Bytes.one (letter-symbol b h) (more-symbol hs))
+
+identifier-symbol : {w : List ℕ} → Identifier w → All symbolByte w
+identifier-symbol (identifier {b} h m) = Bytes.one (letter-symbol b (or-first (letter b) (digit b) h)) (more-symbol m)
+
+identifier-some : {w : List ℕ} → Identifier w → 1 ≤ length w
+identifier-some (identifier h m) = omega arith
+
+pub name-symbol : (w : List ℕ) → isName w ≡ true → isSymbol w ≡ true
+unfolding isName isSymbol
+name-symbol w h =
+    let i = identifier-sound w (and-left (isIdentifier w) _ h) in
+    let l = leb-true (length (map fold w)) 60 (named-name true (map fold w) (and-right (isIdentifier w) _ h) .1) in
+    and-true (all-passes (identifier-symbol i)) (between-in 1 255 (length w) (identifier-some i) (omega (arith, length-map w fold)))
+
+-- ---- the bytes of a name are word bytes, and the first is a letter
+
+pub alnum-word : (b : ℕ) → alnum b ≡ true → wordByte b ≡ true
+alnum-word b h = or-first (alnum b) _ h
+
+more-bytes : {s : List ℕ} → More s → All wordByte s
+more-bytes no-more = Bytes.none
+more-bytes (plain {b} h hs) = Bytes.one (alnum-word b h) (more-bytes hs)
+more-bytes (under {b} h hs) = Bytes.one refl (Bytes.one (alnum-word b h) (more-bytes hs))
+
+identifier-bytes : {w : List ℕ} → Identifier w → All wordByte w
+identifier-bytes (identifier {b} h m) = Bytes.one (alnum-word b (or-first (letter b) _ h)) (more-bytes m)
+
+pub name-bytes : (w : List ℕ) → isName w ≡ true → All wordByte w
+unfolding isName
+name-bytes w h = identifier-bytes (identifier-sound w (and-left (isIdentifier w) _ h))
+
+letter-high : (b : ℕ) → letter b ≡ true → 65 ≤ b
+letter-high b h = or-case (between 65 90 b) (between 97 122 b) (65 ≤ b) h (λ e. between-out 65 90 b e .0) (λ e. omega (arith, between-out 97 122 b e .0))
+
+pub data Begun : List ℕ → Type 0 where
+  begun : {b : ℕ} {s : List ℕ} → 65 ≤ b → Begun (b ∷ s)
+
+identifier-begun : {w : List ℕ} → Identifier w → Begun w
+identifier-begun (identifier {b} e m) = begun (letter-high b e)
+
+pub name-begun : (w : List ℕ) → isName w ≡ true → Begun w
+unfolding isName
+name-begun w h = identifier-begun (identifier-sound w (and-left (isIdentifier w) _ h))

@@ -1,0 +1,89 @@
+-- Patterns for words: runs, fixed bytes and forks on what is left, with one matcher, proved once. Assumes nothing.
+use Prim.Native.Nat.{ℕ}
+use native.Mathlib.Omega.{arith}
+use mathlib.Core.Bool.{Bool, true, false, cond, false≢true}
+use mathlib.Core.Option.{Option, none, some}
+use mathlib.Core.Path.{_≡_, refl, sym, ap, _∙_}
+use mathlib.Core.List.{List, [], _∷_, _++_, append-nil}
+use borrow.Author.Tests.{eqb-true, eq-eqb}
+use lib.Dec.{eqb}
+use lib.ListN.{length}
+use Rattle.rules.specs.Bytes.{front, Run, All}
+use Rattle.rules.specs.Values.{Written}
+use Rattle.rules.proofs.Words.Runs.{Split, span, run-span, Spanned, spanned, span-is, all-run}
+
+pub data G : Type 0 where
+  -- nothing more
+  stop : Written → G
+  -- all that is left, if the test holds of it
+  whole : (List ℕ → Bool) → (List ℕ → Written) → G
+  byte : ℕ → G → G
+  check : Bool → G → G
+  -- as many bytes of the class as there are, if the test holds of their number
+  run : (ℕ → Bool) → (ℕ → Bool) → (List ℕ → G) → G
+  fork : (List ℕ → Bool) → G → G → G
+
+pub data Takes : G → List ℕ → Written → Type 0 where
+  t-stop : {v : Written} → Takes (stop v) [] v
+  t-whole : {t : List ℕ → Bool} {f : List ℕ → Written} {w : List ℕ} → t w ≡ true → Takes (whole t f) w (f w)
+  t-byte : {b : ℕ} {g : G} {w : List ℕ} {v : Written} → Takes g w v → Takes (byte b g) (b ∷ w) v
+  t-check : {b : Bool} {g : G} {w : List ℕ} {v : Written} → b ≡ true → Takes g w v → Takes (check b g) w v
+  t-run : {c n : ℕ → Bool} {k : List ℕ → G} {a r : List ℕ} {v : Written} → Run (front c) a r → n (length a) ≡ true → Takes (k a) r v → Takes (run c n k) (a ++ r) v
+  t-yes : {t : List ℕ → Bool} {g h : G} {w : List ℕ} {v : Written} → t w ≡ true → Takes g w v → Takes (fork t g h) w v
+  t-no : {t : List ℕ → Bool} {g h : G} {w : List ℕ} {v : Written} → t w ≡ false → Takes h w v → Takes (fork t g h) w v
+
+abbrev pub only : Bool → Option Written → Option Written
+only true x = x
+only false x = none
+
+abbrev pub matches : G → List ℕ → Option Written
+matches (stop v) [] = some v
+matches (stop v) (b ∷ w) = none
+matches (whole t f) w = only (t w) (some (f w))
+matches (byte b g) [] = none
+matches (byte b g) (a ∷ w) = let x = matches g w in only (eqb a b) x
+matches (check b g) w = let x = matches g w in only b x
+matches (run c n k) w = let s = span (front c) w in let x = matches (k (s .0)) (s .1) in only (n (length (s .0))) x
+matches (fork t g h) w = let x = matches g w in let y = matches h w in cond (t w) x y
+
+none-some : {v : Written} → _≡_ {A = Option Written} none (some v) → ⊥
+none-some {v} e = let z : _≡_ {A = ℕ} 0 1 = cc in omega arith
+
+some-is : {v v′ : Written} → _≡_ {A = Option Written} (some v) (some v′) → v ≡ v′
+some-is e = cc
+
+pub match-complete : {g : G} {w : List ℕ} {v : Written} → Takes g w v → matches g w ≡ some v
+match-complete t-stop = refl
+match-complete (t-whole h) = rw h
+match-complete (t-byte {b} x) = rw (eq-eqb b b refl) (match-complete x)
+match-complete (t-check h x) = rw h (match-complete x)
+match-complete (t-run {c} {n} {k} {a} {r} t h x) =
+    ap (λ (s : Split). only (n (length (s .0))) (matches (k (s .0)) (s .1))) (run-span t) ∙ rw h (match-complete x)
+match-complete (t-yes h x) = rw h (match-complete x)
+match-complete (t-no h x) = rw h (match-complete x)
+
+only-is : (b : Bool) (x : Option Written) {v : Written} → only b x ≡ some v → (b ≡ true) × (x ≡ some v)
+only-is true x e = (refl, e)
+only-is false x e = absurd (none-some e)
+
+pub match-sound : (g : G) (w : List ℕ) (v : Written) → matches g w ≡ some v → Takes g w v
+match-sound (stop u) [] v e = rw (some-is e) t-stop
+match-sound (stop u) (b ∷ w) v e = absurd (none-some e)
+match-sound (whole t f) w v e = let o = only-is (t w) (some (f w)) e in rw (← some-is (o .1)) (t-whole (o .0))
+match-sound (byte b g) [] v e = absurd (none-some e)
+match-sound (byte b g) (a ∷ w) v e = let o = only-is (eqb a b) (matches g w) e in rw (eqb-true a b (o .0)) (t-byte (match-sound g w v (o .1)))
+match-sound (check b g) w v e = let o = only-is b (matches g w) e in t-check (o .0) (match-sound g w v (o .1))
+match-sound (run c n k) w v e = go (λ a r. match-sound (k a) r v) (span-is (front c) refl w) e
+  where
+    go : ((a r : List ℕ) → matches (k a) r ≡ some v → Takes (k a) r v) → {w : List ℕ} {s : Split} → Spanned (front c) w s →
+        only (n (length (s .0))) (matches (k (s .0)) (s .1)) ≡ some v → Takes (run c n k) w v
+    go ih (spanned {a} {r} t) e = let o = only-is (n (length a)) (matches (k a) r) e in t-run t (o .0) (ih a r (o .1))
+match-sound (fork t g h) w v e = go (match-sound g w v) (match-sound h w v) (t w) refl e
+  where
+    go : (matches g w ≡ some v → Takes g w v) → (matches h w ≡ some v → Takes h w v) → (b : Bool) → t w ≡ b → cond b (matches g w) (matches h w) ≡ some v → Takes (fork t g h) w v
+    go x y true k e = t-yes k (x e)
+    go x y false k e = t-no k (y e)
+
+-- a run that ends the word
+pub run-last : {c n : ℕ → Bool} {k : List ℕ → G} {a : List ℕ} {v : Written} → All c a → n (length a) ≡ true → Takes (k a) [] v → Takes (run c n k) a v
+run-last {c} {n} {k} {a} {v} h m x = let t : Takes (run c n k) (a ++ []) v = t-run (all-run h refl) m x in rw append-nil at t

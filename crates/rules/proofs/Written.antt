@@ -1,0 +1,19 @@
+-- The written label: its pieces are the elements of a label, its words read back as what they print, its bytes cut into those elements, and its table has
+-- the meaning that was written. Reassembly by the rules is a function, which changes nothing the second time.
+pub mod Folds
+pub mod Texts
+pub mod Reassembly
+pub mod Pieces
+pub mod Place
+pub mod Aside
+pub mod Writing
+pub mod Clean
+pub mod Spans
+pub mod PrintedNumbers
+pub mod PrintedMoments
+pub mod Names
+pub mod WordBytes
+pub mod Spelling
+pub mod Lines
+pub mod RoundTrip
+mod Examples

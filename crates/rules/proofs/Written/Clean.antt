@@ -1,0 +1,79 @@
+-- The words of a meaning are in order: names and symbols in upper case, texts reassembled. Assumes nothing.
+use Prim.Native.Nat.{ℕ}
+use mathlib.Core.Path.{_≡_, _∙_}
+use mathlib.Core.Bool.{true}
+use mathlib.Core.List.{List, [], _∷_}
+use Rattle.rules.specs.Proper.{NameWord, Each, none, one, stretch, Held, Holds}
+use Rattle.rules.specs.Written.{isName, after}
+use Rattle.rules.specs.Data.{Span, _on_, Opens, outside, inside, Row, attribute, pointer, opened, closed, an-integer, a-real, a-moment, a-text, a-symbol, a-unit, sequence, sequence-end, set, set-end, last}
+use Rattle.rules.specs.Meaning.{Sense, foldAll, reassemble, sense, meaning}
+use Rattle.rules.proofs.Tables.Contents.{name-test, text-body, symbol-body, isText, isSymbol}
+use Rattle.rules.proofs.Written.Texts.{reassemble-idempotent, reassemble-text}
+use Rattle.rules.proofs.Written.Folds.{fold-all-again, name-fold, is-symbol-fold}
+
+abbrev pub Upper : List ℕ → Type 0
+Upper w = (isName w ≡ true) × (foldAll w ≡ w)
+
+abbrev pub Clean : Sense → Type 0
+Clean (attribute w) = Upper w
+Clean (pointer w) = Upper w
+Clean (opened k w) = Upper w
+Clean (closed k) = Unit {0}
+Clean (an-integer w) = Unit {0}
+Clean (a-real x) = Unit {0}
+Clean (a-moment t) = Unit {0}
+Clean (a-text w) = (isText w ≡ true) × (reassemble w ≡ w)
+Clean (a-symbol w) = (isSymbol w ≡ true) × (foldAll w ≡ w)
+Clean (a-unit op w v) = Upper w
+Clean sequence = Unit {0}
+Clean sequence-end = Unit {0}
+Clean set = Unit {0}
+Clean set-end = Unit {0}
+Clean (last n) = Unit {0}
+
+upper : (given : List ℕ) (p : Span) → Held NameWord given p → Upper (foldAll (stretch given p))
+upper given p h = (name-fold (stretch given p) ∙ name-test (stretch given p) .0 (h .content), fold-all-again (stretch given p))
+
+clean-sense : (given : List ℕ) (r : Row) → Holds given r → Clean (sense given r)
+clean-sense given (attribute p) h = upper given p h
+clean-sense given (pointer p) h = upper given p h
+clean-sense given (opened k p) h = upper given p h
+clean-sense given (closed k) h = tt
+clean-sense given (an-integer w) h = tt
+clean-sense given (a-real x) h = tt
+clean-sense given (a-moment t) h = tt
+clean-sense given (a-text p) h = (reassemble-text (stretch given p) (text-body (stretch given p) .0 (h .content)), reassemble-idempotent (stretch given p))
+clean-sense given (a-symbol p) h = (is-symbol-fold (stretch given p) ∙ symbol-body (stretch given p) .0 (h .content), fold-all-again (stretch given p))
+clean-sense given (a-unit op p w) h = upper given p h
+clean-sense given sequence h = tt
+clean-sense given sequence-end h = tt
+clean-sense given set h = tt
+clean-sense given set-end h = tt
+clean-sense given (last n) h = tt
+
+pub clean-meaning : (given : List ℕ) (rs : List Row) → Each (Holds given) rs → Each Clean (meaning given rs)
+clean-meaning given [] none = none
+clean-meaning given (r ∷ rs) (one h hs) = one (clean-sense given r h) (clean-meaning given rs hs)
+
+-- the names of open blocks
+abbrev pub Uppers : Opens → Type 0
+Uppers outside = Unit {0}
+Uppers (inside k n o) = Upper n × Uppers o
+
+pub uppers-after : (o : Opens) (r : Sense) → Uppers o → Clean r → Uppers (after o r)
+uppers-after o (attribute w) u c = u
+uppers-after o (pointer w) u c = u
+uppers-after o (opened k w) u c = (c, u)
+uppers-after outside (closed k) u c = tt
+uppers-after (inside j n o) (closed k) u c = u .1
+uppers-after o (an-integer w) u c = u
+uppers-after o (a-real x) u c = u
+uppers-after o (a-moment t) u c = u
+uppers-after o (a-text w) u c = u
+uppers-after o (a-symbol w) u c = u
+uppers-after o (a-unit op w v) u c = u
+uppers-after o sequence u c = u
+uppers-after o sequence-end u c = u
+uppers-after o set u c = u
+uppers-after o set-end u c = u
+uppers-after o (last n) u c = u

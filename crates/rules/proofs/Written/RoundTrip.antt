@@ -1,0 +1,75 @@
+-- What is written is read back: the canonical label of a proper table follows the rules, and its table has the same meaning. Assumes nothing.
+use Prim.Native.Nat.{ℕ, _≤_}
+use mathlib.Core.Path.{_≡_, sym, ap, subst, _∙_}
+use mathlib.Core.List.{List, []}
+use lib.ListN.{length}
+use Rattle.rules.specs.Data.{outside, Row}
+use Rattle.rules.specs.Reading.{accepted, Judged, follows, Reads, read}
+use Rattle.rules.specs.Proper.{theRules, Each, Proper}
+use Rattle.rules.specs.Modes.{Mode}
+use Rattle.rules.specs.Meaning.{Sense, meaning}
+use Rattle.rules.specs.Written.{start, canonical}
+use Rattle.rules.proofs.Written.Pieces.{writtenPieces}
+use Rattle.rules.proofs.Tables.RowMachine.{t-statement, RowAccepts}
+use Rattle.rules.proofs.Tables.Values.{Valued}
+use Rattle.rules.proofs.Tables.Proper.{proper}
+use Rattle.rules.proofs.Written.Place.{skip, laid}
+use Rattle.rules.proofs.Written.Clean.{Clean, clean-meaning}
+use Rattle.rules.proofs.Written.Aside.{aside-meaning, alike-values, alike-run}
+use Rattle.rules.proofs.Written.Writing.{written-label}
+use Rattle.rules.proofs.Written.Spans.{written-meaning}
+use Rattle.rules.proofs.Written.Spelling.{written-cut}
+use Rattle.rules.proofs.Reading.Reader.{judge-complete}
+use Rattle.rules.proofs.Tables.OwnTable.{read-proper}
+
+-- what is wanted of a label that is written: it follows the rules, and its table means `m`
+pub record ReadBack (label : List ℕ) (m : List Sense) : Type 0 where
+  pub rows : List Row
+  pub past : ℕ
+  pub judged : Judged theRules label (accepted rows past)
+  pub means : meaning label rows ≡ m
+
+accepted-back : (m : List Sense) → Each Clean m → Each Valued m → RowAccepts t-statement [] m → ReadBack (canonical m) m
+accepted-back m c v a = record {
+  rows = laid 0 start outside m;
+  past = skip 0 (writtenPieces m);
+  judged = follows (written-cut m c v a) (written-label m a v);
+  means = written-meaning m c;
+}
+
+-- at any length
+pub judged-back : (given : List ℕ) (rows : List Row) → Proper given rows → ReadBack (canonical (meaning given rows)) (meaning given rows)
+judged-back given rows p =
+    let a = proper .0 p in
+    let m = meaning given rows in
+    accepted-back m (clean-meaning given rows (a .spans)) (alike-values rows m (sym (aside-meaning given rows)) (a .values)) (alike-run rows m (sym (aside-meaning given rows)) (a .run))
+
+accepted-same : {rows rows′ : List Row} {i j : ℕ} → accepted rows i ≡ accepted rows′ j → rows ≡ rows′
+accepted-same e = cc
+
+module _ (given : List ℕ) (rows : List Row) (p : Proper given rows) where
+  -- the reader takes it, and its table has the same meaning
+  pub reads-back : length (canonical (meaning given rows)) ≤ 65535 →
+      (rows′ : List Row) × (i : ℕ) × Reads theRules (canonical (meaning given rows)) (accepted rows′ i) × (meaning (canonical (meaning given rows)) rows′ ≡ meaning given rows)
+  reads-back short = let b = judged-back given rows p in (b .rows, b .past, read short (b .judged), b .means)
+
+  -- whatever a reading of it gives, it is that
+  pub read-means : {rows′ : List Row} {i : ℕ} → Reads theRules (canonical (meaning given rows)) (accepted rows′ i) → meaning (canonical (meaning given rows)) rows′ ≡ meaning given rows
+  read-means {rows′} (read short j) =
+      let b = judged-back given rows p in
+      let e : b .rows ≡ rows′ = accepted-same (sym (judge-complete theRules (b .judged)) ∙ judge-complete theRules j) in
+      subst (λ (rs : List Row). meaning (canonical (meaning given rows)) rs ≡ meaning given rows) e (b .means)
+
+  -- the written label of a written label's table is itself
+  pub written-again : {rows′ : List Row} {i : ℕ} → Reads theRules (canonical (meaning given rows)) (accepted rows′ i) →
+      canonical (meaning (canonical (meaning given rows)) rows′) ≡ canonical (meaning given rows)
+  written-again r = ap canonical (read-means r)
+
+-- tables of equal meaning give equal bytes
+pub equal-bytes : (given given′ : List ℕ) (rows rows′ : List Row) → meaning given rows ≡ meaning given′ rows′ → canonical (meaning given rows) ≡ canonical (meaning given′ rows′)
+equal-bytes given given′ rows rows′ e = ap canonical e
+
+-- a label that is read in any mode, written, and read again
+pub relabelled : (m : Mode) (label : List ℕ) {rows : List Row} {i : ℕ} → Reads m label (accepted rows i) → length (canonical (meaning label rows)) ≤ 65535 →
+    (rows′ : List Row) × (j : ℕ) × Reads theRules (canonical (meaning label rows)) (accepted rows′ j) × (meaning (canonical (meaning label rows)) rows′ ≡ meaning label rows)
+relabelled m label {rows} r short = reads-back label rows (read-proper m label r) short

@@ -1,0 +1,135 @@
+-- The spans of the written label's rows hold the bytes that were written: the table that is read back has the same meaning. Assumes nothing.
+use Prim.Native.Nat.{ℕ, _+_, _-_}
+use mathlib.Core.Path.{_≡_, refl, sym, ap, ap₂, _∙_, subst}
+use mathlib.Core.Bool.{Bool, true, false}
+use mathlib.Core.List.{List, [], _∷_, _++_, append-assoc}
+use lib.ListN.{length, length-append}
+use native.Mathlib.Omega.{arith}
+use lib.Seq.{take-at, drop-at}
+use Rattle.rules.specs.Proper.{Each, none, one, stretch}
+use Rattle.rules.specs.Written.{isName, isOne, Prior, start, line, assigned, member, factor, bracket, row, prior, after, written}
+use Rattle.rules.specs.Data.{Op, first, times, divided, Opens, outside, attribute, pointer, opened, closed, an-integer, a-real, a-moment, a-text, a-symbol, a-unit, sequence, sequence-end, set, set-end, last}
+use Rattle.rules.specs.Meaning.{Sense, foldAll, reassemble, sense, meaning}
+use Rattle.rules.proofs.Written.Pieces.{bytes-append, written-bytes, Piece, called, symbolPiece, exponentPieces, opPiece, closing, apart, before, piecesOf, pieces, bytesOf}
+use Rattle.rules.proofs.Written.Place.{spanAt, next, skip, hasSpan, spanIn, spanned, laid}
+use Rattle.rules.proofs.Written.Clean.{Clean}
+
+-- ---- places in bytes
+
+-- from `n` on, `whole` is `rest`
+pub record At (whole : List ℕ) (n : ℕ) (rest : List ℕ) : Type 0 where
+  pub front : List ℕ
+  pub split : whole ≡ front ++ rest
+  pub size : length front ≡ n
+
+pub at-start : (whole : List ℕ) → At whole 0 whole
+at-start whole = record { front = []; split = refl; size = refl }
+
+pub at-past : (whole : List ℕ) (n : ℕ) (g rest : List ℕ) → At whole n (g ++ rest) → At whole (n + length g) rest
+at-past whole n g rest a = record {
+  front = a .front ++ g;
+  split = a .split ∙ sym (append-assoc (a .front) g rest);
+  size = length-append (a .front) g ∙ ap (λ (i : ℕ). i + length g) (a .size);
+}
+
+-- the bytes of a span
+pub at-word : (whole : List ℕ) (n : ℕ) (w rest : List ℕ) → At whole n (w ++ rest) → stretch whole (record { from = n; upto = n + length w }) ≡ w
+at-word whole n w rest a =
+    let e : n + length w - n ≡ length w = omega arith in
+    rw (a .split, drop-at (a .front) (w ++ rest) n (a .size), e) (take-at w rest (length w) refl)
+
+module _ (whole : List ℕ) (post : List ℕ) where
+  abbrev pub Here : ℕ → List Piece → Type 0
+  Here n ps = At whole n (bytesOf ps ++ post)
+
+  piece-open : (n : ℕ) (p : Piece) (ps : List Piece) → Here n (p ∷ ps) → At whole n (p .gap ++ (p .mark ++ (p .word ++ (p .mark ++ (bytesOf ps ++ post)))))
+  piece-open n p ps h = simp append-assoc at h
+
+  pub here-next : (n : ℕ) (p : Piece) (ps : List Piece) → Here n (p ∷ ps) → Here (next n p) ps
+  here-next n p ps h =
+      at-past whole _ (p .mark) _ (at-past whole _ (p .word) _ (at-past whole _ (p .mark) _ (at-past whole n (p .gap) _ (piece-open n p ps h))))
+
+  pub here-word : (n : ℕ) (p : Piece) (ps : List Piece) → Here n (p ∷ ps) → stretch whole (spanAt n p) ≡ p .word
+  here-word n p ps h = at-word whole _ (p .word) _ (at-past whole _ (p .mark) _ (at-past whole n (p .gap) _ (piece-open n p ps h)))
+
+  pub here-skip : (n : ℕ) (ps qs : List Piece) → Here n (ps ++ qs) → Here (skip n ps) qs
+  here-skip n [] qs h = h
+  here-skip n (p ∷ ps) qs h = here-skip (next n p) ps qs (here-next n p (ps ++ qs) h)
+
+-- ---- the first span, past what closes the row before
+
+span-closing : (n : ℕ) (q : Prior) (ps : List Piece) → spanIn n (closing q ++ ps) ≡ spanIn (skip n (closing q)) ps
+span-closing n start ps = refl
+span-closing n line ps = refl
+span-closing n assigned ps = refl
+span-closing n member ps = refl
+span-closing n factor ps = refl
+span-closing n bracket ps = refl
+span-closing n row ps = refl
+
+span-apart : (n : ℕ) (q : Prior) (ps : List Piece) → spanIn n (apart q ++ ps) ≡ spanIn (skip n (apart q)) ps
+span-apart n start ps = refl
+span-apart n line ps = refl
+span-apart n assigned ps = refl
+span-apart n member ps = refl
+span-apart n factor ps = refl
+span-apart n bracket ps = refl
+span-apart n row ps = refl
+
+module _ (whole : List ℕ) (post : List ℕ) where
+  -- a name, first or after other elements
+  closed-word : (n : ℕ) (q : Prior) (p : Piece) (ps : List Piece) → hasSpan (p .elem) ≡ true → Here whole post n (closing q ++ (p ∷ ps)) → stretch whole (spanIn n (closing q ++ (p ∷ ps))) ≡ p .word
+  closed-word n q p ps e h = rw (span-closing n q (p ∷ ps), e) (here-word whole post _ p ps (here-skip whole post n (closing q) (p ∷ ps) h))
+
+  closed-second : (n : ℕ) (q : Prior) (p p′ : Piece) (ps : List Piece) → hasSpan (p .elem) ≡ false → hasSpan (p′ .elem) ≡ true → Here whole post n (closing q ++ (p ∷ p′ ∷ ps)) →
+      stretch whole (spanIn n (closing q ++ (p ∷ p′ ∷ ps))) ≡ p′ .word
+  closed-second n q p p′ ps e e′ h =
+      rw (span-closing n q (p ∷ p′ ∷ ps), e, e′) (here-word whole post _ p′ ps (here-next whole post _ p (p′ ∷ ps) (here-skip whole post n (closing q) (p ∷ p′ ∷ ps) h)))
+
+  closed-third : (n : ℕ) (q : Prior) (p p′ p″ : Piece) (ps : List Piece) → hasSpan (p .elem) ≡ false → hasSpan (p′ .elem) ≡ false → hasSpan (p″ .elem) ≡ true → Here whole post n (closing q ++ (p ∷ p′ ∷ p″ ∷ ps)) →
+      stretch whole (spanIn n (closing q ++ (p ∷ p′ ∷ p″ ∷ ps))) ≡ p″ .word
+  closed-third n q p p′ p″ ps e e′ e″ h =
+      rw (span-closing n q (p ∷ p′ ∷ p″ ∷ ps), e, e′, e″)
+      (here-word whole post _ p″ ps (here-next whole post _ p′ (p″ ∷ ps) (here-next whole post _ p (p′ ∷ p″ ∷ ps) (here-skip whole post n (closing q) (p ∷ p′ ∷ p″ ∷ ps) h))))
+
+  apart-word : (n : ℕ) (q : Prior) (p : Piece) → hasSpan (p .elem) ≡ true → Here whole post n (apart q ++ (p ∷ [])) → stretch whole (spanIn n (apart q ++ (p ∷ []))) ≡ p .word
+  apart-word n q p e h = rw (span-apart n q (p ∷ []), e) (here-word whole post _ p [] (here-skip whole post n (apart q) (p ∷ []) h))
+
+  symbol-word : (n : ℕ) (q : Prior) (g w : List ℕ) (b : Bool) → Here whole post n (apart q ++ (symbolPiece g w b ∷ [])) → stretch whole (spanIn n (apart q ++ (symbolPiece g w b ∷ []))) ≡ w
+  symbol-word n q g w true h = apart-word n q (symbolPiece g w true) refl h
+  symbol-word n q g w false h = apart-word n q (symbolPiece g w false) refl h
+
+  unit-word : (n : ℕ) (op : Op) (w : List ℕ) (ps : List Piece) → Here whole post n (opPiece op ∷ called [] w ∷ ps) → stretch whole (spanIn n (opPiece op ∷ called [] w ∷ ps)) ≡ w
+  unit-word n first w ps h = here-word whole post _ (called [] w) ps (here-next whole post n (opPiece first) (called [] w ∷ ps) h)
+  unit-word n times w ps h = here-word whole post _ (called [] w) ps (here-next whole post n (opPiece times) (called [] w ∷ ps) h)
+  unit-word n divided w ps h = here-word whole post _ (called [] w) ps (here-next whole post n (opPiece divided) (called [] w ∷ ps) h)
+
+  sense-back : (n : ℕ) (q : Prior) (o : Opens) (r : Sense) → Clean r → Here whole post n (piecesOf q o r) → sense whole (spanned (spanIn n (piecesOf q o r)) r) ≡ r
+  sense-back n q o (attribute w) c h = ap attribute (ap foldAll (closed-word n q _ _ refl h) ∙ c .1)
+  sense-back n q o (pointer w) c h = ap pointer (ap foldAll (closed-second n q _ _ _ refl refl h) ∙ c .1)
+  sense-back n q o (opened k w) c h = ap (opened k) (ap foldAll (closed-third n q _ _ _ _ refl refl refl h) ∙ c .1)
+  sense-back n q o (closed k) c h = refl
+  sense-back n q o (an-integer w) c h = refl
+  sense-back n q o (a-real x) c h = refl
+  sense-back n q o (a-moment t) c h = refl
+  sense-back n q o (a-text w) c h = ap a-text (ap reassemble (apart-word n q _ refl h) ∙ c .1)
+  sense-back n q o (a-symbol w) c h = ap a-symbol (ap foldAll (symbol-word n q (before q) w (isName w) h) ∙ c .1)
+  sense-back n q o (a-unit op w v) c h = ap (λ (u : List ℕ). a-unit op u v) (ap foldAll (unit-word n op w (exponentPieces v (isOne v)) h) ∙ c .1)
+  sense-back n q o sequence c h = refl
+  sense-back n q o sequence-end c h = refl
+  sense-back n q o set c h = refl
+  sense-back n q o set-end c h = refl
+  sense-back n q o (last u) c h = refl
+
+pub laid-meaning : (whole post : List ℕ) (n : ℕ) (q : Prior) (o : Opens) (rs : List Sense) → Each Clean rs → Here whole post n (pieces q o rs) → meaning whole (laid n q o rs) ≡ rs
+laid-meaning whole post n q o [] none h = refl
+laid-meaning whole post n q o (r ∷ rs) (one c cs) h =
+    let ps = pieces (prior r) (after o r) rs in
+    ap₂ (λ (x : Sense) (y : List Sense). x ∷ y)
+    (sense-back whole (bytesOf ps ++ post) n q o r c (subst (At whole n) (ap (λ (l : List ℕ). l ++ post) (bytes-append (piecesOf q o r) ps) ∙ append-assoc (bytesOf (piecesOf q o r)) (bytesOf ps) post) h))
+    (laid-meaning whole post (skip n (piecesOf q o r)) (prior r) (after o r) rs cs (here-skip whole post n (piecesOf q o r) ps h))
+
+-- the table of the written label has the meaning that was written
+pub written-meaning : (m : List Sense) → Each Clean m → meaning (written m) (laid 0 start outside m) ≡ m
+written-meaning m c =
+    laid-meaning (written m) (13 ∷ 10 ∷ []) 0 start outside m c (subst (At (written m) 0) (sym (written-bytes m)) (at-start (written m)))

@@ -1,0 +1,16 @@
+-- The rules, in the order of document 01: bytes; elements, their words and what words stand for; statements and values; the table; what comes back
+-- from a reading; proper tables, what they mean, and the label that is written.
+pub mod Bytes
+pub mod Modes
+pub mod Data
+pub mod Values
+pub mod Words
+pub mod Elements
+pub mod Grammar
+pub mod Faults
+pub mod Table
+pub mod Reading
+pub mod Proper
+pub mod Meaning
+pub mod Written
+pub mod Examples

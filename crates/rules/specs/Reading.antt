@@ -1,0 +1,54 @@
+-- What comes back from a reading: the table, or the first fault. Assumes nothing.
+use Prim.Native.Nat.{ℕ, _+_, _≤_, _<_}
+use mathlib.Core.List.{List, [], _∷_, _++_}
+use lib.ListN.{length, drop}
+use Rattle.rules.specs.Data.{Elem, Placed, Row}
+use Rattle.rules.specs.Grammar.{strict, Label}
+use Rattle.rules.specs.Modes.{Mode}
+use Rattle.rules.specs.Faults.{Refused, Early}
+use Rattle.rules.specs.Table.{table}
+use Rattle.rules.specs.Elements.{Gap, Spells, placed, Cut, Fault}
+
+pub data Outcome : Type 0 where
+  -- the rows, and the place past END
+  accepted : List Row → ℕ → Outcome
+  -- a code and its place
+  refused : ℕ → ℕ → Outcome
+
+-- what the rules say of a label of any length: it follows them, or where the first fault is
+pub data Judged (m : Mode) (l : List ℕ) : Outcome → Type 0 where
+  -- 0: accepted; the place past END
+  follows : {i : ℕ} {es : List Placed} {rows : List Row} {r : List ℕ} → Cut m 0 l es i r → Label m strict es rows → Judged m l (accepted rows i)
+  -- 2 to 5: after elements that begin a label, bytes that spell no element
+  misspelled : {i c : ℕ} {es : List Placed} {g r : List ℕ} → Cut m 0 l es i (g ++ r) → Early m es → Gap m g r → Fault m r c →
+      Judged m l (refused c (i + length g))
+  -- 6 to 9, and 5 of an exponent: after elements that begin a label, an element that cannot stand there; its start
+  misplaced : {i c q : ℕ} {es : List Placed} {g w r : List ℕ} {e : Elem} → Cut m 0 l es i (g ++ (w ++ r)) → Early m es → Gap m g (w ++ r) →
+      Spells m w e q r → Refused m es (placed i g w e q) c →
+      Judged m l (refused c (i + length g))
+  -- 10: the input ends early; its length
+  ends-early : {i : ℕ} {es : List Placed} {r : List ℕ} → Cut m 0 l es i r → Early m es → Gap m r [] → Judged m l (refused 10 (length l))
+
+-- what a reading gives: 1 first
+pub data Reads (m : Mode) (l : List ℕ) : Outcome → Type 0 where
+  too-long : 65535 < length l → Reads m l (refused 1 65535)
+  read : {o : Outcome} → length l ≤ 65535 → Judged m l o → Reads m l o
+
+-- ---- the call, with the lent room
+
+-- A reading gives code, place and table length
+pub record Said : Type 0 where
+  pub code : ℕ
+  pub place : ℕ
+  pub size : ℕ
+
+-- Room beyond the reported length is untouched, and on refusal all of it.
+pub data Answered (m : Mode) (l room : List ℕ) : Said → List ℕ → Type 0 where
+  -- 0, and the table at the room's start
+  stored : {rows : List Row} {i : ℕ} → Reads m l (accepted rows i) → length (table rows) ≤ length room →
+      Answered m l room (record { code = 0; place = i; size = length (table rows) }) (table rows ++ drop (length (table rows)) room)
+  -- 11 only if nothing else: room too short; the length is the one needed
+  no-room : {rows : List Row} {i : ℕ} → Reads m l (accepted rows i) → length room < length (table rows) →
+      Answered m l room (record { code = 11; place = i; size = length (table rows) }) room
+  -- refused; the table length is 0
+  not-read : {c i : ℕ} → Reads m l (refused c i) → Answered m l room (record { code = c; place = i; size = 0 }) room

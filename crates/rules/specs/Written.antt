@@ -1,0 +1,257 @@
+-- The written label, as a function of a meaning alone: what each row writes after the row before it. Assumes nothing.
+use Prim.Native.Nat.{ℕ, zero, suc, _+_, _/_, _%_, _^_}
+use Prim.Native.Char.{code as byte}
+use mathlib.Core.Bool.{Bool, true, false, cond, not, _&&_}
+use mathlib.Core.Option.{Option, none, some}
+use mathlib.Core.List.{List, [], _∷_, _++_, map}
+use lib.Dec.{leb, eqb}
+use lib.ListN.{length}
+use Rattle.rules.specs.Bytes.{ascii, letter, alnum, fold}
+use Rattle.rules.specs.Data.{Whole, Real, Moment, Elem, name, the, end, integer, based, real, moment, range, text, symbol, Kind, object, group, Op, first, times, divided, Opens, outside, inside, depth, attribute, pointer, opened, closed, an-integer, a-real, a-moment, a-text, a-symbol, a-unit, sequence, sequence-end, set, set-end, last}
+use Rattle.rules.specs.Values.{significant, named}
+use Rattle.rules.specs.Meaning.{Sense}
+
+-- ---- numbers, dates and times
+
+-- exactly so many digits
+unfoldable pub wide : ℕ → ℕ → List ℕ
+wide zero n = []
+wide (suc k) n = (48 + n / 10 ^ k % 10) ∷ wide k n
+
+-- digits without the zeros that begin them, but for the last digit
+unfoldable pub unpadded : List ℕ → List ℕ
+unpadded [] = []
+unpadded (d ∷ ds) = cond (eqb d (byte "0") && leb 1 (length ds)) (unpadded ds) (d ∷ ds)
+
+-- the digits of a number below 10 ^ 20
+unfoldable pub digits : ℕ → List ℕ
+digits n = unpadded (wide 20 n)
+
+-- Integers in decimal, minus only.
+abbrev pub decimal : Whole → List ℕ
+decimal w = cond (w .minus) (byte "-" ∷ digits (w .size)) (digits (w .size))
+
+-- Reals: number, period, then `E` and power unless 0.
+abbrev pub realBytes : Real → List ℕ
+realBytes x = decimal (x .number) ++ (byte "." ∷ cond (eqb (x .power .size) 0) [] (byte "E" ∷ decimal (x .power)))
+
+-- Dates as YYYY-MM-DD,
+abbrev pub dateBytes : Moment → List ℕ
+dateBytes t = wide 4 (t .year) ++ (byte "-" ∷ (wide 2 (t .month) ++ (byte "-" ∷ wide 2 (t .day))))
+
+-- a fraction without trailing zeros if any,
+abbrev pub fraction : List ℕ → List ℕ
+fraction [] = []
+fraction (b ∷ s) = byte "." ∷ b ∷ s
+
+-- then Z or sign, HH:MM.
+abbrev pub zone : Whole → List ℕ
+zone w =
+    cond (eqb (w .size) 0) (byte "Z" ∷ [])
+    (cond (w .minus) (byte "-") (byte "+") ∷ (wide 2 (w .size / 60) ++ (byte ":" ∷ wide 2 (w .size % 60))))
+
+-- HH:MM:SS, fraction, zone
+abbrev pub timeBytes : Moment → List ℕ
+timeBytes t =
+    wide 2 (t .hour) ++ (byte ":" ∷ (wide 2 (t .minute) ++ (byte ":" ∷ (wide 2 (t .second) ++ (fraction (significant (wide 9 (t .nanoseconds))) ++ zone (t .offset))))))
+
+-- a date, a time, or both with T between
+abbrev pub momentBytes : Moment → List ℕ
+momentBytes t =
+    cond (eqb (t .parts) 1) (dateBytes t)
+    (cond (eqb (t .parts) 2) (timeBytes t) (dateBytes t ++ (byte "T" ∷ timeBytes t)))
+
+-- ---- the test that a symbol stands bare by
+
+-- a letter or digit; an underscore with none before it; where an underscore stands before
+abbrev pub nextMore : Bool → Bool → Bool → Bool → Bool → Bool
+nextMore true y u a b = a
+nextMore false true false a b = b
+nextMore false true true a b = false
+nextMore false false u a b = false
+
+abbrev pub more : Bool → List ℕ → Bool
+more u [] = not u
+more u (b ∷ s) = nextMore (alnum b) (eqb b (byte "_")) u (more false s) (more true s)
+
+abbrev pub isIdentifier : List ℕ → Bool
+isIdentifier [] = false
+isIdentifier (b ∷ s) = letter b && more false s
+
+-- a word that `named` takes for a name: unreserved, and of at most 60 bytes
+abbrev pub aName : Elem → Bool
+aName (name n) = true
+aName (the f) = false
+aName (end b) = false
+aName (integer w) = false
+aName (based w) = false
+aName (real x) = false
+aName (moment t) = false
+aName (range lo hi) = false
+aName text = false
+aName symbol = false
+
+abbrev pub ofName : Option Elem → Bool
+ofName none = false
+ofName (some e) = aName e
+
+-- an unreserved identifier of at most 60 bytes
+unfoldable pub isName : List ℕ → Bool
+isName w = isIdentifier w && ofName (named false true (map fold w))
+
+-- ---- symbols and units
+
+-- A symbol stands bare if it is an unreserved identifier of at most 60 bytes, else in apostrophes.
+abbrev pub symbolBytes : List ℕ → List ℕ
+symbolBytes w = cond (isName w) w (byte "'" ∷ (w ++ ascii "'"))
+
+-- Units: one space, `<KM*SEC**-2>`,
+abbrev pub opSign : Op → List ℕ
+opSign first = ascii " <"
+opSign times = ascii "*"
+opSign divided = ascii "/"
+
+-- exponent 1 unwritten.
+abbrev pub isOne : Whole → Bool
+isOne w = not (w .minus) && eqb (w .size) 1
+
+abbrev pub exponentBytes : Whole → List ℕ
+exponentBytes w = cond (isOne w) [] (ascii "**" ++ decimal w)
+
+-- ---- between one row and the next
+
+-- what the row before is: none; a whole line; a name, before its value; a scalar; a unit; a bracket; the end of a sequence, which may be a row of another
+pub data Prior : Type 0 where
+  start line assigned member factor bracket row : Prior
+
+abbrev pub prior : Sense → Prior
+prior (attribute n) = assigned
+prior (pointer n) = assigned
+prior (opened k n) = line
+prior (closed k) = line
+prior (an-integer w) = member
+prior (a-real x) = member
+prior (a-moment t) = member
+prior (a-text w) = member
+prior (a-symbol w) = member
+prior (a-unit op n w) = factor
+prior sequence = bracket
+prior sequence-end = row
+prior set = bracket
+prior set-end = bracket
+prior (last n) = line
+
+-- `<KM*SEC**-2>`: the last unit is closed by whatever row comes next
+abbrev pub unitsEnd : Prior → List ℕ
+unitsEnd start = []
+unitsEnd line = []
+unitsEnd assigned = []
+unitsEnd member = []
+unitsEnd factor = ascii ">"
+unitsEnd bracket = []
+unitsEnd row = []
+
+-- `((a, b)(c))`: rows side by side
+abbrev pub betweenRows : List ℕ
+betweenRows = []
+
+-- `NAME = value`, `(a, b)`, `{a, b}`: a space before a value, comma and space between members, nothing after a bracket. No value follows a whole line.
+abbrev pub lead : Prior → List ℕ
+lead start = ascii " "
+lead line = ascii " "
+lead assigned = ascii " "
+lead member = ascii ", "
+lead factor = ascii ", "
+lead bracket = []
+lead row = betweenRows
+
+-- Lines end CR LF.
+abbrev pub lineBreak : Prior → List ℕ
+lineBreak start = []
+lineBreak line = 13 ∷ 10 ∷ []
+lineBreak assigned = 13 ∷ 10 ∷ []
+lineBreak member = 13 ∷ 10 ∷ []
+lineBreak factor = 13 ∷ 10 ∷ []
+lineBreak bracket = 13 ∷ 10 ∷ []
+lineBreak row = 13 ∷ 10 ∷ []
+
+-- Two spaces per depth;
+unfoldable pub indent : ℕ → List ℕ
+indent zero = []
+indent (suc d) = 32 ∷ 32 ∷ indent d
+
+abbrev pub newLine : Prior → ℕ → List ℕ
+newLine q d = lineBreak q ++ indent d
+
+-- ---- the blocks that are open
+
+abbrev pub around : Opens → Opens
+around outside = outside
+around (inside k n o) = o
+
+-- after a row
+abbrev pub after : Opens → Sense → Opens
+after o (attribute n) = o
+after o (pointer n) = o
+after o (opened k n) = inside k n o
+after o (closed k) = around o
+after o (an-integer w) = o
+after o (a-real x) = o
+after o (a-moment t) = o
+after o (a-text w) = o
+after o (a-symbol w) = o
+after o (a-unit op n w) = o
+after o sequence = o
+after o sequence-end = o
+after o set = o
+after o set-end = o
+after o (last n) = o
+
+abbrev pub openWord : Kind → List ℕ
+openWord object = ascii "OBJECT"
+openWord group = ascii "GROUP"
+
+abbrev pub closeWord : Kind → List ℕ
+closeWord object = ascii "END_OBJECT"
+closeWord group = ascii "END_GROUP"
+
+-- a closing line stands at its opening line's depth and repeats the name.
+abbrev pub repeats : Opens → List ℕ
+repeats outside = []
+repeats (inside k n o) = ascii " = " ++ n
+
+-- ---- rows
+
+-- what a row writes, after `q`, within the blocks `o`
+abbrev pub writes : Prior → Opens → Sense → List ℕ
+-- `NAME = value`, `^NAME = value`
+writes q o (attribute n) = unitsEnd q ++ (newLine q (depth o) ++ (n ++ ascii " ="))
+writes q o (pointer n) = unitsEnd q ++ (newLine q (depth o) ++ (byte "^" ∷ (n ++ ascii " =")))
+writes q o (opened k n) = unitsEnd q ++ (newLine q (depth o) ++ (openWord k ++ (ascii " = " ++ n)))
+writes q o (closed k) = unitsEnd q ++ (newLine q (depth (around o)) ++ (closeWord k ++ repeats o))
+writes q o (an-integer w) = unitsEnd q ++ (lead q ++ decimal w)
+writes q o (a-real x) = unitsEnd q ++ (lead q ++ realBytes x)
+writes q o (a-moment t) = unitsEnd q ++ (lead q ++ momentBytes t)
+-- Texts on one line.
+writes q o (a-text w) = unitsEnd q ++ (lead q ++ (byte "\"" ∷ (w ++ ascii "\"")))
+writes q o (a-symbol w) = unitsEnd q ++ (lead q ++ symbolBytes w)
+writes q o (a-unit op n w) = opSign op ++ (n ++ exponentBytes w)
+-- `(a, b)`, `((a, b)(c))`, `{a, b}`, `{}`
+writes q o sequence = unitsEnd q ++ (lead q ++ ascii "(")
+writes q o sequence-end = unitsEnd q ++ ascii ")"
+writes q o set = unitsEnd q ++ (lead q ++ ascii "{")
+writes q o set-end = unitsEnd q ++ ascii "}"
+-- Last `END`.
+writes q o (last n) = unitsEnd q ++ (newLine q (depth o) ++ ascii "END")
+
+abbrev pub writesAll : Prior → Opens → List Sense → List ℕ
+writesAll q o [] = []
+writesAll q o (r ∷ rs) = writes q o r ++ writesAll (prior r) (after o r) rs
+
+-- the label that these rows write; the line of END ends CR LF too
+abbrev pub written : List Sense → List ℕ
+written m = writesAll start outside m ++ (13 ∷ 10 ∷ [])
+
+-- the canonical label of a meaning
+abbrev pub canonical : List Sense → List ℕ
+canonical m = written m

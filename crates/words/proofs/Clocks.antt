@@ -1,0 +1,218 @@
+-- Times: the nanoseconds of decimals, the limits of each part, and the zone. Assumes nothing.
+use Prim.Native.Nat.{ℕ, suc, _+_, _-_, _*_, _^_, _≤_, _<_, min}
+use mathlib.Core.Bool.{Bool, true, false, cond, not, _&&_}
+use mathlib.Core.Path.{_≡_, refl, sym, ap, _∙_}
+use mathlib.Core.List.{List, [], _∷_}
+use native.Mathlib.Nat.{pow-zero, pow-succ', mul-assoc, mul-one, one-mul, mul-le-mul, mul-lt-mul-of-pos-right, pow-le-pow-right}
+use native.Mathlib.Omega.{arith}
+use borrow.Author.Tests.{eqb-true, leb-true, lt-ltb, le-ltb, le-leb, lt-leb}
+use lib.Dec.{eqb, leb, ltb}
+use lib.ListN.{length, getD, take}
+use lib.Pow.{pow-add}
+use lib.Seq.{length-take-le}
+use Rattle.rules.specs.Bytes.{All, none, one, digit}
+use Rattle.rules.specs.Values.{number, onto, significant, Day, Zone as ZoneR, Time as TimeR, dayOf, noDay, a-date, a-date-time}
+use Rattle.rules.proofs.Words.Runs.{both}
+use Rattle.forms.specs.declared.Clock.{Clock}
+use Rattle.forms.specs.declared.Date.{Date}
+use Rattle.forms.specs.declared.Stamp.{Stamp}
+use Rattle.forms.specs.declared.Stamp.the-variants.{Undated, Dated}
+use Rattle.forms.specs.Forms.{on, dateOf, clockOf, timeOf}
+use Rattle.words.specs.declared.days.Day as code
+use Rattle.words.specs.declared.days.Found.{Found}
+use Rattle.words.specs.declared.days.Found.the-variants.{Missing, On}
+use Rattle.words.specs.declared.Value.{Value}
+use Rattle.words.specs.declared.Value.the-variants.{Time, Past}
+use Rattle.words.specs.Says.{Worth}
+use Rattle.words.specs.Parts.{Significant}
+use Rattle.words.specs.Days.{dayIs, foundOf, yearOf}
+use Rattle.words.specs.Times.{nanos, nanosOf, Zoned, Timed, Kept}
+use Rattle.words.proofs.Decimals.{and-no}
+use Rattle.words.proofs.Calendar.{upto}
+
+-- ---- nanoseconds
+
+abbrev tens : List ℕ
+tens = 1 ∷ 10 ∷ 100 ∷ 1000 ∷ 10000 ∷ 100000 ∷ 1000000 ∷ 10000000 ∷ 100000000 ∷ 1000000000 ∷ []
+
+pub ten-is : (e : ℕ) → e ≤ 9 → getD tens e 0 ≡ 10 ^ e
+ten-is e h = eqb-true (getD tens e 0) (10 ^ e) (upto (λ i. eqb (getD tens i 0) (10 ^ i)) 10 refl e (omega arith))
+
+pub ten-most : (e : ℕ) → e ≤ 9 → getD tens e 0 ≤ 1000000000
+ten-most e h = leb-true (getD tens e 0) 1000000000 (upto (λ i. leb (getD tens i 0) 1000000000) 10 refl e (omega arith))
+
+ten-least : (e : ℕ) → e ≤ 9 → 1 ≤ getD tens e 0
+ten-least e h = leb-true 1 (getD tens e 0) (upto (λ i. leb 1 (getD tens i 0)) 10 refl e (omega arith))
+
+-- digits after a number below c make one below c times the power
+onto-bound : (n c : ℕ) {s : List ℕ} → All digit s → n < c → onto n s < c * 10 ^ length s
+onto-bound n c none h = rw (pow-zero, mul-one) h
+onto-bound n c (one {b} {s} k ks) h =
+    let o = both (leb 48 b) (leb b 57) k in
+    let l = leb-true 48 b (o .0) in
+    let m = leb-true b 57 (o .1) in
+    let e : c * 10 ^ suc (length s) ≡ c * 10 * 10 ^ length s = rw (pow-succ', mul-assoc) in
+    rw e (onto-bound (n * 10 + (b - 48)) (c * 10) ks (omega arith))
+
+pub number-bound : {s : List ℕ} → All digit s → number s < 10 ^ length s
+number-bound {s} h = rw one-mul at (onto-bound 0 1 h (omega arith))
+
+all-significant : {s : List ℕ} → All digit s → All digit (significant s)
+all-significant none = none
+all-significant (one {b} {s} h hs) = go (eqb b 48 && _) (all-significant hs)
+  where
+    go : (t : Bool) → All digit (significant s) → All digit (cond t [] (b ∷ significant s))
+    go true a = none
+    go false a = one h a
+
+-- at most 9 decimals are fewer than 10^9 nanoseconds
+nanos-bound : (ds : List ℕ) → All digit ds → length (significant ds) ≤ 9 → nanos ds < 1000000000
+nanos-bound ds h l =
+    let a : number (significant ds) < 10 ^ length (significant ds) = number-bound (all-significant h) in
+    let e : length (significant ds) + (9 - length (significant ds)) ≡ 9 = omega arith in
+    let p : 10 ^ length (significant ds) * 10 ^ (9 - length (significant ds)) ≡ 1000000000 = sym (pow-add 10 (length (significant ds)) (9 - length (significant ds))) ∙ ap (λ (x : ℕ). 10 ^ x) e in
+    let z : 0 < 10 ^ (9 - length (significant ds)) = omega (arith, ten-least (9 - length (significant ds)) (omega arith), ten-is (9 - length (significant ds)) (omega arith)) in
+    rw p at (mul-lt-mul-of-pos-right {m = number (significant ds)} {n = 10 ^ length (significant ds)} {k = 10 ^ (9 - length (significant ds))} a z)
+
+pub too-many : (ds : List ℕ) (k : ℕ) → Significant ds k → 9 < k → 1000000000 ≡ nanosOf ds
+unfolding nanosOf
+too-many ds k s h =
+    let e : length (significant ds) ≡ k = ap length (s .is) ∙ length-take-le k ds (s .within) in
+    rw (e, lt-leb k 9 h)
+
+pub product-fits : (n t : ℕ) (s : List ℕ) → n ≡ min 1000000000 (onto 0 s) → t ≤ 1000000000 → n * t < 18446744073709551616
+product-fits n t s e h =
+    let p : n * t ≤ 1000000000000000000 = mul-le-mul {n₁ = n} {m₁ = t} {n₂ = 1000000000} {m₂ = 1000000000} (omega arith) h in
+    omega arith
+
+pub nanos-are : (ds : List ℕ) (k n t : ℕ) → All digit ds → Significant ds k → k ≤ 9 → n ≡ min 1000000000 (onto 0 (take (k - 0) ds)) → t ≡ 10 ^ (9 - k) → n * t ≡ nanosOf ds
+unfolding nanosOf
+nanos-are ds k n t a s h e f =
+    let z : k - 0 ≡ k = omega arith in
+    let l : length (significant ds) ≡ k = ap length (s .is) ∙ length-take-le k ds (s .within) in
+    let b : number (significant ds) < 10 ^ length (significant ds) = number-bound (all-significant a) in
+    let q : onto 0 (take (k - 0) ds) ≡ number (significant ds) = rw z (ap number (sym (s .is))) in
+    let p : 10 ^ length (significant ds) ≤ 1000000000 = pow-le-pow-right {n = 10} (omega arith) {i = length (significant ds)} {j = 9} (omega arith) in
+    let x : n ≡ number (significant ds) = omega arith in
+    let y : t ≡ 10 ^ (9 - length (significant ds)) = f ∙ ap (λ (i : ℕ). 10 ^ (9 - i)) (sym l) in
+    rw (le-leb (length (significant ds)) 9 (omega arith), x, y)
+
+-- ---- the zone
+
+module _ (parts : ℕ) (d : Day) (h m s n : ℕ) (z : ZoneR) where
+  pub zone-hour : (x : ℕ) → x ≡ min 10000 (z .hours) → 12 < x → Zoned parts d h m s n z Past
+  zone-hour x e k = record { worth = λ w off. rw (lt-leb (z .hours) 12 (omega arith)) }
+
+  pub zone-minute : (x : ℕ) → x ≡ min 10000 (z .minutes) → 59 < x → Zoned parts d h m s n z Past
+  zone-minute x e k = record { worth = λ w off. rw (lt-leb (z .minutes) 59 (omega arith), and-no (leb (z .hours) 12)) }
+
+  pub zone-kept : (x y : ℕ) → x ≡ min 10000 (z .hours) → y ≡ min 10000 (z .minutes) → x ≤ 12 → y ≤ 59 → Zoned parts d h m s n z (Time (record {
+    parts = parts;
+    year = d .year;
+    month = d .month;
+    day = d .day;
+    hour = h;
+    minute = m;
+    second = s;
+    nanoseconds = n;
+    west = z .west && not (eqb (x * 60 + y) 0);
+    offset = x * 60 + y;
+  }))
+  zone-kept x y e f k l =
+      let p : z .hours ≡ x = omega arith in
+      let q : z .minutes ≡ y = omega arith in
+      record { worth = λ w off. rw (p, q, le-leb x 12 k, le-leb y 59 l) }
+
+-- ---- the time
+
+pub digits-lent : (s ds : List ℕ) → All digit s → ds ≡ s → All digit ds
+digits-lent s ds a e = rw e a
+
+few : (ds : List ℕ) (n : ℕ) → n ≡ nanosOf ds → n ≤ 999999999 → (leb (length (significant ds)) 9 ≡ true) × (nanos ds ≡ n)
+unfolding nanosOf
+few ds n e h = go (leb (length (significant ds)) 9) e
+  where
+    go : (t : Bool) → n ≡ cond t (nanos ds) 1000000000 → (t ≡ true) × (nanos ds ≡ n)
+    go true f = (refl, sym f)
+    go false f = absurd (omega arith)
+
+many : (ds : List ℕ) (n : ℕ) → All digit ds → n ≡ nanosOf ds → 999999999 < n → leb (length (significant ds)) 9 ≡ false
+unfolding nanosOf
+many ds n a e h = go (leb (length (significant ds)) 9) refl e
+  where
+    go : (t : Bool) → leb (length (significant ds)) 9 ≡ t → n ≡ cond t (nanos ds) 1000000000 → t ≡ false
+    go false q f = refl
+    go true q f = absurd (omega (arith, nanos-bound ds a (leb-true (length (significant ds)) 9 q)))
+
+module _ (parts : ℕ) (d : Day) (w : List ℕ) (c : Clock) (z : ZoneR) where
+  pub late-hour : (h : ℕ) → h ≡ min 10000 (number (on w (c .hour))) → 23 < h → Timed parts d (clockOf w c z) Past
+  late-hour h e k = record { worth = λ v off. rw (le-ltb (number (on w (c .hour))) 24 (omega arith)) }
+
+  pub late-minute : (m : ℕ) → m ≡ min 10000 (number (on w (c .minute))) → 59 < m → Timed parts d (clockOf w c z) Past
+  late-minute m e k = record { worth = λ v off. rw (le-ltb (number (on w (c .minute))) 60 (omega arith), and-no (ltb (number (on w (c .hour))) 24)) }
+
+  pub late-second : (s : ℕ) → s ≡ min 10000 (number (on w (c .second))) → 59 < s → Timed parts d (clockOf w c z) Past
+  late-second s e k = record {
+    worth = λ v off.
+        rw (le-ltb (number (on w (c .second))) 60 (omega arith), and-no (ltb (number (on w (c .minute))) 60), and-no (ltb (number (on w (c .hour))) 24));
+  }
+
+  pub many-decimals : (n : ℕ) (ds : List ℕ) → All digit (on w (c .decimals)) → ds ≡ on w (c .decimals) → n ≡ nanosOf ds → 999999999 < n → Timed parts d (clockOf w c z) Past
+  many-decimals n ds a q e k = record {
+    worth = λ v off.
+        rw (many (on w (c .decimals)) n a (e ∙ ap nanosOf q) k, and-no (ltb (number (on w (c .second))) 60), and-no (ltb (number (on w (c .minute))) 60), and-no (ltb (number (on w (c .hour))) 24));
+  }
+
+  pub time-kept : {r : Value} (h m s n : ℕ) (ds : List ℕ) → h ≡ min 10000 (number (on w (c .hour))) → m ≡ min 10000 (number (on w (c .minute))) → s ≡ min 10000 (number (on w (c .second))) →
+      ds ≡ on w (c .decimals) → n ≡ nanosOf ds → h ≤ 23 → m ≤ 59 → s ≤ 59 → n ≤ 999999999 → Zoned parts d h m s n z r → Timed parts d (clockOf w c z) r
+  time-kept h m s n ds eh em es q en kh km ks kn v =
+      let f = few (on w (c .decimals)) n (en ∙ ap nanosOf q) kn in
+      let a : number (on w (c .hour)) ≡ h = omega (arith, eh, kh) in
+      let b : number (on w (c .minute)) ≡ m = omega (arith, em, km) in
+      let x : number (on w (c .second)) ≡ s = omega (arith, es, ks) in
+      record { worth = λ u off. rw (f .0, f .1, a, b, x, lt-ltb h 24 (omega (arith, kh)), lt-ltb m 60 (omega (arith, km)), lt-ltb s 60 (omega (arith, ks))) (v .worth u off) }
+
+-- ---- with a date or without
+
+module _ (w : List ℕ) (date : Date) (f : Found) where
+  pub no-such-day : dayOf (dateOf w date) ≡ foundOf f → f ≡ Missing → Worth (a-date (dateOf w date)) Past
+  no-such-day e q = record { worth = λ v off. rw (e, q) }
+
+  pub such-day : (day : code.Day) → dayOf (dateOf w date) ≡ foundOf f → f ≡ On day → Worth (a-date (dateOf w date)) (Time (record {
+    parts = 1;
+    year = day .year;
+    month = day .month;
+    day = day .day;
+    hour = 0;
+    minute = 0;
+    second = 0;
+    nanoseconds = 0;
+    west = false;
+    offset = 0;
+  }))
+  such-day day e q = record { worth = λ v off. rw (e, q) }
+
+  pub no-day-time : (t : TimeR) → dayOf (dateOf w date) ≡ foundOf f → f ≡ Missing → Worth (a-date-time (dateOf w date) t) Past
+  no-day-time t e q = record { worth = λ v off. rw (e, q) }
+
+  pub day-time : {r : Value} (t : TimeR) (day : code.Day) → dayOf (dateOf w date) ≡ foundOf f → f ≡ On day → Timed 3 (dayIs day) t r → Worth (a-date-time (dateOf w date) t) r
+  day-time t day e q v = record { worth = λ u off. rw (e, q) (v .worth u off) }
+
+module _ (w : List ℕ) (stamp : Stamp) (c : Clock) (z : ZoneR) where
+  pub undated-digits : Kept (timeOf w stamp c z) → stamp ≡ Undated → All digit (on w (c .decimals))
+  undated-digits k q = rw q at k
+
+  both-kept : (date : Date) → Kept (timeOf w stamp c z) → stamp ≡ Dated date → (yearOf (dateOf w date) ≤ 9999) × All digit (on w (c .decimals))
+  both-kept date k q = rw q at k
+
+  pub dated-year : (date : Date) → Kept (timeOf w stamp c z) → stamp ≡ Dated date → yearOf (dateOf w date) ≤ 9999
+  dated-year date k q = both-kept date k q .0
+
+  pub dated-digits : (date : Date) → Kept (timeOf w stamp c z) → stamp ≡ Dated date → All digit (on w (c .decimals))
+  dated-digits date k q = both-kept date k q .1
+
+  pub undated : {r : Value} → stamp ≡ Undated → Timed 2 noDay (clockOf w c z) r → Worth (timeOf w stamp c z) r
+  undated q v = rw q (record { worth = v .worth })
+
+  pub with-date : {r : Value} (date : Date) → stamp ≡ Dated date → Worth (a-date-time (dateOf w date) (clockOf w c z)) r → Worth (timeOf w stamp c z) r
+  with-date date q v = rw q v

@@ -1,0 +1,6 @@
+pub mod Reserved
+pub mod Digits
+pub mod Decimals
+pub mod Calendar
+pub mod Clocks
+pub mod Words

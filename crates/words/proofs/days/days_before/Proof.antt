@@ -1,0 +1,18 @@
+use borrow.Author.Needs.{needs}
+use Rattle.words.proofs.days.days_before.Statement.{statement}
+use Rattle.words.proofs.days.days_before.Tie as tie
+use Rattle.words.proofs.Calendar.{leap-before, plain-before}
+
+ruleset ways = (leap-before, plain-before, needs)
+
+pub days-before-spec : {M : Type 1} → statement M
+days-before-spec =
+    tie.close
+    (tie.spec
+    (λ c κs. search ways)
+    (λ c. search ways)
+    (λ c. search ways)
+    (λ c. search ways)
+    (λ c. search ways)
+    (λ c. search ways)
+    (λ c. search ways))

@@ -1,0 +1,137 @@
+// Days of the calendar: of a year and a day of it, or of a year, a month and a day.
+use crate::numbers::number_of;
+use forms::Date;
+use forms::Span;
+ghost use mathlib.Core.Path.{_≡_};
+ghost use Prim.Native.Nat.{_≤_};
+ghost use Rattle.rules.specs.Values.{leap, monthLength, dayOf};
+ghost use Rattle.forms.specs.Forms.{dateOf};
+ghost use Rattle.words.specs.Days.{Before, YearDay, MonthDay, foundOf, yearOf};
+
+// A day; all 0 where there is no date.
+pub struct Day {
+    pub year: u16,
+    pub month: u8,
+    pub day: u8,
+}
+
+// A day that the calendar has, or that it has none.
+pub enum Found {
+    Missing,
+    On(Day),
+}
+
+// The days of each month, and the days of a year before it; the first entry is of no month.
+const LENGTHS: [u64; 13] = [0, 31, 28, 31, 30, 31, 30, 31, 31, 30, 31, 30, 31];
+
+const LEAP_LENGTHS: [u64; 13] = [0, 31, 29, 31, 30, 31, 30, 31, 31, 30, 31, 30, 31];
+
+const BEFORE: [u64; 13] = [0, 0, 31, 59, 90, 120, 151, 181, 212, 243, 273, 304, 334];
+
+const LEAP_BEFORE: [u64; 13] = [0, 0, 31, 60, 91, 121, 152, 182, 213, 244, 274, 305, 335];
+
+fn is_leap(year: u64) -> bool
+    ensures { λ r. ⌜ r ≡ leap year ⌝ }
+{
+    (year % 4 == 0) & (year % 100 != 0) | (year % 400 == 0)
+}
+
+// The days of a month.
+fn month_length(year: u64, month: u64) -> u64
+    requires { ⌜ month ≤ 12 ⌝ }
+    ensures { λ r. ⌜ (r ≡ monthLength year month) × (r ≤ 31) ⌝ }
+{
+    if is_leap(year) {
+        return LEAP_LENGTHS[month as usize];
+    }
+    LENGTHS[month as usize]
+}
+
+// The days of a year before a month.
+fn days_before(year: u64, month: u64) -> u64
+    requires { ⌜ (1 ≤ month) × (month ≤ 12) ⌝ }
+    ensures { λ r. ⌜ Before year month r ⌝ }
+{
+    if is_leap(year) {
+        return LEAP_BEFORE[month as usize];
+    }
+    BEFORE[month as usize]
+}
+
+// A year and a day of it. No month has more than 31 days, and all of them lack 7 days of that at most, so that the month is the guessed one or the next.
+fn day_in_year(year: u64, n: u64) -> Found
+    requires { ⌜ year ≤ 9999 ⌝ }
+    ensures { λ r. ⌜ YearDay year n r ⌝ }
+{
+    if year == 0 {
+        return Found::Missing;
+    }
+    if n == 0 {
+        return Found::Missing;
+    }
+    let d = days_before(year, 12);
+    if d + 31 < n {
+        return Found::Missing;
+    }
+    let m = (n - 1) / 31 + 1;
+    let a = days_before(year, m);
+    let e = a + month_length(year, m);
+    if n <= e {
+        return Found::On(Day {
+            year: year as u16,
+            month: m as u8,
+            day: (n - a) as u8,
+        });
+    }
+    Found::On(Day {
+        year: year as u16,
+        month: (m + 1) as u8,
+        day: (n - e) as u8,
+    })
+}
+
+// A year, a month and a day of the month.
+fn day_in_month(year: u64, m: u64, d: u64) -> Found
+    requires { ⌜ year ≤ 9999 ⌝ }
+    ensures { λ r. ⌜ MonthDay year m d r ⌝ }
+{
+    if year == 0 {
+        return Found::Missing;
+    }
+    if m == 0 {
+        return Found::Missing;
+    }
+    if 12 < m {
+        return Found::Missing;
+    }
+    if d == 0 {
+        return Found::Missing;
+    }
+    if month_length(year, m) < d {
+        return Found::Missing;
+    }
+    Found::On(Day {
+        year: year as u16,
+        month: m as u8,
+        day: d as u8,
+    })
+}
+
+// The day of a date, of which the year stands in the first four bytes.
+pub fn day_of(w: &[u8], date: Date) -> Found
+    requires { ⌜ yearOf (dateOf (now w) date) ≤ 9999 ⌝ }
+    ensures { λ r. ⌜ dayOf (dateOf (now (w .entry)) date) ≡ foundOf r ⌝ }
+{
+    let y = number_of(w, Span { from: 0, upto: 4 });
+    match date {
+        Date::InYear(n) => {
+            let k = number_of(w, n);
+            day_in_year(y, k)
+        }
+        Date::InMonth(m, d) => {
+            let j = number_of(w, m);
+            let k = number_of(w, d);
+            day_in_month(y, j, k)
+        }
+    }
+}

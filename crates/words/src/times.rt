@@ -1,0 +1,171 @@
+// Times: the hour, minute, second and zone of a day or of none.
+use crate::Moment;
+use crate::Value;
+use crate::days::Day;
+use crate::days::Found;
+use crate::days::day_of;
+use crate::numbers::bytes_of;
+use crate::numbers::number_of;
+use crate::numbers::number_onto;
+use crate::reals::without_zeros;
+use forms::Clock;
+use forms::Date;
+use forms::Stamp;
+use forms::Zone;
+ghost use mathlib.Core.Path.{_≡_};
+ghost use Prim.Native.Nat.{_^_, _≤_, _<_};
+ghost use Rattle.rules.specs.Bytes.{All, digit};
+ghost use Rattle.rules.specs.Values.{a-date, a-date-time};
+ghost use Rattle.forms.specs.Forms.{on, dateOf, zoneOf, clockOf, timeOf};
+ghost use Rattle.words.specs.Says.{Worth};
+ghost use Rattle.words.specs.Days.{dayIs, yearOf};
+ghost use Rattle.words.specs.Times.{nanosOf, Zoned, Timed, Kept};
+
+const TENS: [u64; 10] = [
+    1,
+    10,
+    100,
+    1_000,
+    10_000,
+    100_000,
+    1_000_000,
+    10_000_000,
+    100_000_000,
+    1_000_000_000,
+];
+
+// A power of ten.
+fn ten_to(e: usize) -> u64
+    requires { ⌜ e ≤ 9 ⌝ }
+    ensures { λ r. ⌜ (r ≡ 10 ^ e) × (r ≤ 1000000000) ⌝ }
+{
+    TENS[e]
+}
+
+// The nanoseconds of the decimals of a second, or 10^9 where they are too many.
+fn nanoseconds(ds: &[u8]) -> u64
+    requires { ⌜ All digit (now ds) ⌝ }
+    ensures { λ r. ⌜ r ≡ nanosOf (now (ds .entry)) ⌝ }
+{
+    let k = without_zeros(ds);
+    if 9 < k {
+        return 1_000_000_000;
+    }
+    let n = number_onto(0, &ds[0..k], 1_000_000_000);
+    let t = ten_to(9 - k);
+    n * t
+}
+
+// A day and a time of it, in a zone whose sign covers both its hour and its minute.
+fn zoned(
+    w: &[u8],
+    parts: u8,
+    day: Day,
+    hour: u8,
+    minute: u8,
+    second: u8,
+    nanos: u32,
+    zone: Zone,
+) -> Value
+    ensures { λ r. ⌜ Zoned parts (dayIs day) hour minute second nanos (zoneOf (now (w .entry)) zone) r ⌝ }
+{
+    let h = number_of(w, zone.hours);
+    let m = number_of(w, zone.minutes);
+    if 12 < h {
+        return Value::Past;
+    }
+    if 59 < m {
+        return Value::Past;
+    }
+    let offset = h * 60 + m;
+    Value::Time(Moment {
+        parts,
+        year: day.year,
+        month: day.month,
+        day: day.day,
+        hour,
+        minute,
+        second,
+        nanoseconds: nanos,
+        west: zone.west & (offset != 0),
+        offset: offset as u16,
+    })
+}
+
+// A day and a time of it.
+pub fn timed(w: &[u8], parts: u8, day: Day, clock: Clock, zone: Zone) -> Value
+    requires { ⌜ All digit (on (now w) (clock .decimals)) ⌝ }
+    ensures { λ r. ⌜ Timed parts (dayIs day) (clockOf (now (w .entry)) clock (zoneOf (now (w .entry)) zone)) r ⌝ }
+{
+    let h = number_of(w, clock.hour);
+    let m = number_of(w, clock.minute);
+    let s = number_of(w, clock.second);
+    let n = nanoseconds(bytes_of(w, clock.decimals));
+    if 23 < h {
+        return Value::Past;
+    }
+    if 59 < m {
+        return Value::Past;
+    }
+    if 59 < s {
+        return Value::Past;
+    }
+    if 999_999_999 < n {
+        return Value::Past;
+    }
+    zoned(w, parts, day, h as u8, m as u8, s as u8, n as u32, zone)
+}
+
+// A day without a time.
+pub fn dated(w: &[u8], date: Date) -> Value
+    requires { ⌜ yearOf (dateOf (now w) date) ≤ 9999 ⌝ }
+    ensures { λ r. ⌜ Worth (a-date (dateOf (now (w .entry)) date)) r ⌝ }
+{
+    match day_of(w, date) {
+        Found::Missing => Value::Past,
+        Found::On(day) => Value::Time(Moment {
+            parts: 1,
+            year: day.year,
+            month: day.month,
+            day: day.day,
+            hour: 0,
+            minute: 0,
+            second: 0,
+            nanoseconds: 0,
+            west: false,
+            offset: 0,
+        }),
+    }
+}
+
+// A date with a time.
+fn dated_time(w: &[u8], date: Date, clock: Clock, zone: Zone) -> Value
+    requires { ⌜ (yearOf (dateOf (now w) date) ≤ 9999) × All digit (on (now w) (clock .decimals)) ⌝ }
+    ensures { λ r. ⌜ Worth (a-date-time (dateOf (now (w .entry)) date) (clockOf (now (w .entry)) clock (zoneOf (now (w .entry)) zone))) r ⌝ }
+{
+    match day_of(w, date) {
+        Found::Missing => Value::Past,
+        Found::On(day) => timed(w, 3, day, clock, zone),
+    }
+}
+
+// A time, with a date or without.
+pub fn stamped(w: &[u8], stamp: Stamp, clock: Clock, zone: Zone) -> Value
+    requires { ⌜ Kept (timeOf (now w) stamp clock (zoneOf (now w) zone)) ⌝ }
+    ensures { λ r. ⌜ Worth (timeOf (now (w .entry)) stamp clock (zoneOf (now (w .entry)) zone)) r ⌝ }
+{
+    match stamp {
+        Stamp::Undated => timed(
+            w,
+            2,
+            Day {
+                year: 0,
+                month: 0,
+                day: 0,
+            },
+            clock,
+            zone,
+        ),
+        Stamp::Dated(date) => dated_time(w, date, clock, zone),
+    }
+}

@@ -1,0 +1,862 @@
+//! Labels and tables by chance, the same ones for the same seed.
+//!
+//! Good labels use every kind of value and every kind of gap. Damaged ones
+//! are good ones with a few bytes changed, labels at a limit or just past it,
+//! or elements strung together without regard for grammar. Tables are those
+//! of good labels, whole or damaged, each with a row and a name to ask for.
+
+use crate::{read, LONGEST_LABEL};
+
+/// The xorshift* generator: short, and good enough for tests.
+pub struct Random {
+    state: u64,
+}
+
+impl Random {
+    pub fn new(seed: u64) -> Random {
+        // The state must not be 0, and neighbouring seeds should differ much.
+        let state = seed.wrapping_add(1).wrapping_mul(0x9E37_79B9_7F4A_7C15);
+        Random { state: state | 1 }
+    }
+
+    pub fn bits(&mut self) -> u64 {
+        self.state ^= self.state >> 12;
+        self.state ^= self.state << 25;
+        self.state ^= self.state >> 27;
+        self.state.wrapping_mul(0x2545_F491_4F6C_DD1D)
+    }
+
+    /// A number from 0 to below `bound`; 0 if the bound is 0.
+    pub fn below(&mut self, bound: usize) -> usize {
+        ((self.bits() >> 32) as usize)
+            .checked_rem(bound)
+            .unwrap_or(0)
+    }
+
+    /// True once in so many times.
+    pub fn one_in(&mut self, times: usize) -> bool {
+        self.below(times) == 0
+    }
+
+    pub fn pick<T: Copy>(&mut self, list: &[T]) -> T {
+        list[self.below(list.len())]
+    }
+}
+
+/// A label of any sort.
+pub fn label(random: &mut Random) -> Vec<u8> {
+    match random.below(10) {
+        0..=3 => good_label(random),
+        4..=7 => damaged_label(random),
+        8 => limit_label(random),
+        _ => strung_elements(random),
+    }
+}
+
+/// A label that follows the rules, but for its length: one in some hundreds
+/// has about 65,535 bytes, a few of these more than that.
+pub fn good_label(random: &mut Random) -> Vec<u8> {
+    let size = match random.below(400) {
+        0 => return filled_label(random),
+        1..=9 => random.below(6_000),
+        10..=99 => random.below(800),
+        _ => random.below(120),
+    };
+    Maker::new(random).label(size)
+}
+
+/// A good label filled up with spaces to nearly, exactly or just over the
+/// longest length allowed.
+pub fn filled_label(random: &mut Random) -> Vec<u8> {
+    let size = random.below(LONGEST_LABEL - 8_000);
+    let mut label = Maker::new(random).label(size);
+    let wanted = LONGEST_LABEL - 2 + random.below(5);
+    // Spaces may stand before the first element as well as after END.
+    let before = random.pick(&[0, label.len()]);
+    let missing = wanted.saturating_sub(label.len());
+    let spaces = std::iter::repeat_n(b' ', missing);
+    label.splice(before..before, spaces);
+    label
+}
+
+/// A good label with one to three changes that may or may not break it.
+pub fn damaged_label(random: &mut Random) -> Vec<u8> {
+    let mut label = good_label(random);
+    for _ in 0..1 + random.below(3) {
+        damage(random, &mut label);
+    }
+    label
+}
+
+fn damage(random: &mut Random, label: &mut Vec<u8>) {
+    const TELLING: &[u8] = b"=,*/^<>(){}\"'_+-.:#&;\\ \t\r\n\x0b\x0c\0\x1f\x7f\x80\xff09azAZTEe";
+    let at = random.below(label.len());
+    let other = random.below(label.len());
+    match random.below(9) {
+        0 if !label.is_empty() => label[at] ^= 1 << random.below(8),
+        1 if !label.is_empty() => label[at] = random.pick(TELLING),
+        2 if !label.is_empty() => {
+            label.remove(at);
+        }
+        3 => label.insert(at, random.pick(TELLING)),
+        4 => label.truncate(at),
+        5 => swap_slices(random, label),
+        6 => {
+            let slice = label[at.min(other)..at.max(other).min(at.min(other) + 40)].to_vec();
+            label.splice(at..at, slice);
+        }
+        7 => replace_word(random, label, at),
+        _ => {
+            let element = random_element(random);
+            label.splice(at..at, element);
+        }
+    }
+}
+
+fn swap_slices(random: &mut Random, label: &mut Vec<u8>) {
+    let mut cuts: Vec<usize> = (0..4).map(|_| random.below(label.len() + 1)).collect();
+    cuts.sort_unstable();
+    let swapped = [
+        &label[..cuts[0]],
+        &label[cuts[2]..cuts[3]],
+        &label[cuts[1]..cuts[2]],
+        &label[cuts[0]..cuts[1]],
+        &label[cuts[3]..],
+    ]
+    .concat();
+    *label = swapped;
+}
+
+/// Puts another word, perhaps one past its limit, in place of the run of
+/// letters and digits at this offset.
+fn replace_word(random: &mut Random, label: &mut Vec<u8>, at: usize) {
+    let in_word = |byte: &u8| byte.is_ascii_alphanumeric() || *byte == b'_';
+    let before = label[..at].iter().rev().take_while(|b| in_word(b)).count();
+    let after = label[at..].iter().take_while(|b| in_word(b)).count();
+    let word = match random.one_in(2) {
+        true => limit_word(random),
+        false => random_element(random),
+    };
+    label.splice(at - before..at + after, word);
+}
+
+/// A label that holds one thing at its limit, or just past it.
+pub fn limit_label(random: &mut Random) -> Vec<u8> {
+    let past = random.below(2);
+    match random.below(11) {
+        0 => nested_label(random, 80 + past),
+        1 => [name_of(random, 60 + past), b"=1 END".to_vec()].concat(),
+        2 => [
+            b"OBJECT=".to_vec(),
+            name_of(random, 60 + past),
+            b" END_OBJECT END".to_vec(),
+        ]
+        .concat(),
+        3 => {
+            let sign = random.pick(&["", "+", "-", "-0", "00"]);
+            format!("A=(1 <B**{sign}{}>) END", 99 + past).into_bytes()
+        }
+        4 => format!("A='{}' END", "s".repeat(255 + past)).into_bytes(),
+        5 => filled_label(random),
+        6 => closed_label(random),
+        7 => [b"A=1 END".to_vec(), vec![random.bits() as u8]].concat(),
+        8 => [b"A=".to_vec(), long_word(random), b" END".to_vec()].concat(),
+        _ => [b"A=".to_vec(), limit_word(random), b" END".to_vec()].concat(),
+    }
+}
+
+/// A block that is closed by its own name or by something much like it.
+fn closed_label(random: &mut Random) -> Vec<u8> {
+    let (word, closing) = random.pick(&[("OBJECT", "END_OBJECT"), ("GROUP", "END_GROUP")]);
+    let name = random.pick(&[
+        "Name_1", "NAME_1", "name_1", "NAME_2", "NAME_11", "NAME_", "END",
+    ]);
+    let sign = random.pick(&["=", " = ", " =/* c */\n", " "]);
+    format!("{word}=NAME_1 {closing}{sign}{name} END").into_bytes()
+}
+
+/// A word of many digits, most of them zeros.
+fn long_word(random: &mut Random) -> Vec<u8> {
+    let count = random.below(3_000);
+    let zeros = "0".repeat(count);
+    let digit = random.below(10);
+    let shift = count + random.below(1_100);
+    let word = match random.below(6) {
+        0 => format!("{zeros}{digit}"),
+        1 => format!("{zeros}{digit}#{zeros}1#"),
+        2 => format!("1E-{zeros}{digit}"),
+        3 => format!("0.{zeros}{digit}E{shift}"),
+        4 => format!("{digit}{zeros}E-{shift}"),
+        _ => format!("10:00:00.{digit}{zeros}"),
+    };
+    word.into_bytes()
+}
+
+/// Blocks within blocks to this depth, with an attribute in the innermost.
+fn nested_label(random: &mut Random, depth: usize) -> Vec<u8> {
+    let kinds: Vec<&str> = (0..depth)
+        .map(|_| random.pick(&["OBJECT", "group"]))
+        .collect();
+    let mut label = String::new();
+    for kind in &kinds {
+        label += &format!("{kind}=B ");
+    }
+    label += "A=1 ";
+    for kind in kinds.iter().rev() {
+        label += &format!("END_{kind} ");
+    }
+    (label + "END").into_bytes()
+}
+
+fn name_of(random: &mut Random, length: usize) -> Vec<u8> {
+    (0..length)
+        .map(|at| match at {
+            0 => b'N',
+            _ => random.pick(b"AbC19"),
+        })
+        .collect()
+}
+
+/// A word at a limit or just past it, or with a form just missed.
+fn limit_word(random: &mut Random) -> Vec<u8> {
+    const WORDS: &str = "
+        9223372036854775807 9223372036854775808 -9223372036854775807
+        -9223372036854775808 0000000000000000000000000000001 16#7FFFFFFFFFFFFFFF#
+        16#8000000000000000# 16#-7fffffffffffffff# 2#102# 2#1# 1#0# 16#F# 17#F# 016#G#
+        16## 16#-# -16#F# 99999999999999999999#1# 999999999999999999.
+        9999999999999999990. 9999999999999999999. 1000000000000000000.
+        1000000000000000001. -.999999999999999999 -.9999999999999999999 1E999 1E1000
+        10E999 0.1E1000 0.1E-998 0.1E-999 1.0E-999 1E-1000 0E99999999999999999999
+        1E99999999999999999999 1E-99999999999999999999 0.000E-5000 1E 1E+ .E1 . + 1..2
+        1e5. 1990-365 1990-366 2000-366 2000-367 1900-366 2004-060 1990-0 1990-1234
+        199-01 19900-01 0000-001 0001-1-1 9999-12-31 1990-13-01 1990-00-01 1990-04-31
+        1900-02-29 2000-02-29 1990-7-123 1990-7-4T0:0 1990-07T23:59:59.999999999Z
+        1990-07t23:59:59.9999999990z 1990-07T23:59:59.9999999999 1990-07T 1990-07Z
+        T12:00 23:59 24:00 10:60 10:00:59. 10:00:60 10:00:.5 10:00:001 100:00
+        10:00+12:59 10:00-12:59 10:00+13 10:00-12:60 10:00-00:30 10:00-0 10:00+007
+        10:00+ A_ A__B _A A_1_B A-B";
+    let words: Vec<&str> = WORDS.split_whitespace().collect();
+    random.pick(&words).as_bytes().to_vec()
+}
+
+/// Elements, gaps and faulty bytes in a row, without regard for grammar.
+pub fn strung_elements(random: &mut Random) -> Vec<u8> {
+    let mut label = Vec::new();
+    for _ in 0..random.below(14) {
+        label.extend(random_element(random));
+        label.extend_from_slice(random.pick(&[b" ", b" ", b" ", b"\n", b""]));
+    }
+    label.extend_from_slice(random.pick(&[&b"END"[..], b" END", b"END;", b""]));
+    label
+}
+
+/// One element of any kind, or the beginning of something that is none.
+fn random_element(random: &mut Random) -> Vec<u8> {
+    #[rustfmt::skip]
+    const ELEMENTS: &[&[u8]] = &[
+        b"=", b"=", b"=", b",", b"*", b"/", b"^", b"<", b">", b"(", b")", b"{", b"}",
+        b"**", b"A=1", b"^B=", b"C", b"OBJECT=A", b"GROUP=B", b"END_OBJECT",
+        b"END_GROUP=B", b"END_OBJECT=", b"object", b"Begin_Object", b"BEGIN_GROUP",
+        b"END", b"end", b"\"t\"", b"\"", b"'", b"''", b"'s'", b"/* c */\n", b"/*",
+        b"/*/", b"/**/ rest \xe9", b"***", b"//*x*/\n", b"<KM>", b"<KM**2>", b"(1)",
+        b"{}", b"\"\xe9", b"'\t'", b"/*\x80*/", b"&",
+    ];
+    match random.below(5) {
+        0 => limit_word(random),
+        1 => Maker::new(random).only(Maker::scalar),
+        _ => random.pick(ELEMENTS).to_vec(),
+    }
+}
+
+/// Makes a good label element by element.
+struct Maker<'r> {
+    random: &'r mut Random,
+    out: Vec<u8>,
+    /// Closing words and names of the open blocks, innermost last.
+    open: Vec<(&'static str, String)>,
+    /// How often a gap is more than it must be: once in so many.
+    odd_gaps: usize,
+}
+
+impl<'r> Maker<'r> {
+    fn new(random: &'r mut Random) -> Maker<'r> {
+        let odd_gaps = random.pick(&[2, 5, 20, 1000]);
+        Maker {
+            random,
+            out: Vec::new(),
+            open: Vec::new(),
+            odd_gaps,
+        }
+    }
+
+    /// What one step puts, by itself.
+    fn only(mut self, step: fn(&mut Self)) -> Vec<u8> {
+        step(&mut self);
+        self.out
+    }
+
+    /// A whole label with about `size` bytes of statements.
+    fn label(mut self, size: usize) -> Vec<u8> {
+        while self.out.len() < size {
+            self.statement();
+        }
+        while !self.open.is_empty() {
+            self.closing();
+        }
+        let end = self.random.pick(&["END", "END", "end", "eNd"]);
+        self.put(end);
+        self.after_end();
+        self.out
+    }
+
+    /// END is set off; what follows then is free.
+    fn after_end(&mut self) {
+        let rest = self.random.pick(&[
+            &b""[..],
+            b"",
+            b"\r\n",
+            b"\n",
+            b" ",
+            b"\tEND;",
+            b"\x0b\xff\xfe\0",
+            b"\x0c\"",
+        ]);
+        self.out.extend_from_slice(rest);
+    }
+
+    /// Puts an element after a gap.
+    fn put(&mut self, element: &str) {
+        self.gap(element.as_bytes());
+        self.out.extend_from_slice(element.as_bytes());
+    }
+
+    fn gap(&mut self, next: &[u8]) {
+        let in_word = |byte: &u8| byte.is_ascii_alphanumeric() || b"_+-.:#".contains(byte);
+        let must = self.out.last().is_some_and(in_word) && next.first().is_some_and(in_word);
+        if !self.random.one_in(self.odd_gaps) {
+            if must || self.random.one_in(2) {
+                self.out.push(b' ');
+            }
+            return;
+        }
+        if must {
+            self.out.push(self.random.pick(b" \t\r\n\x0b\x0c"));
+        }
+        for _ in 0..self.random.below(3) {
+            self.odd_gap();
+        }
+    }
+
+    fn odd_gap(&mut self) {
+        match self.random.below(4) {
+            0 => self.comment(),
+            1 => self.out.extend_from_slice(b"\r\n"),
+            2 => self.out.extend_from_slice(b"    "),
+            _ => self.out.push(self.random.pick(b" \t\r\n\x0b\x0c")),
+        }
+    }
+
+    fn comment(&mut self) {
+        #[rustfmt::skip]
+        const BODIES: &[&[u8]] = &[
+            b"", b" rig 4 ", b"*", b"***", b"/*", b"END", b" ' \" ", b"\0\x7f\t", b"* /",
+            b"&;",
+        ];
+        #[rustfmt::skip]
+        const RESTS: &[&[u8]] = &[
+            b"", b"", b" ignored", b" END", b"*/", b"/* open", b"\xe9\xff\0", b" \" '",
+        ];
+        self.out.extend_from_slice(b"/*");
+        self.out.extend_from_slice(self.random.pick(BODIES));
+        self.out.extend_from_slice(b"*/");
+        self.out.extend_from_slice(self.random.pick(RESTS));
+        self.out.push(self.random.pick(b"\r\n\x0b\x0c"));
+    }
+
+    fn statement(&mut self) {
+        match self.random.below(10) {
+            0 if self.open.len() < 80 => self.opening(),
+            1 if !self.open.is_empty() => self.closing(),
+            2 => {
+                self.put("^");
+                self.assignment();
+            }
+            _ => self.assignment(),
+        }
+    }
+
+    fn opening(&mut self) {
+        let (word, closing) = self.random.pick(&[
+            ("OBJECT", "END_OBJECT"),
+            ("Object", "end_object"),
+            ("GROUP", "END_GROUP"),
+            ("group", "End_Group"),
+        ]);
+        let name = self.name();
+        self.put(word);
+        self.put("=");
+        self.put(&name);
+        self.open.push((closing, name));
+    }
+
+    fn closing(&mut self) {
+        let Some((word, name)) = self.open.pop() else {
+            return;
+        };
+        self.put(word);
+        if self.random.one_in(2) {
+            let name = match self.random.below(3) {
+                0 => name.to_ascii_uppercase(),
+                1 => name.to_ascii_lowercase(),
+                _ => name,
+            };
+            self.put("=");
+            self.put(&name);
+        }
+    }
+
+    fn assignment(&mut self) {
+        let name = self.name();
+        self.put(&name);
+        self.put("=");
+        self.value();
+    }
+
+    fn name(&mut self) -> String {
+        #[rustfmt::skip]
+        const NAMES: &[&str] = &[
+            "A", "b", "NAME", "Start_Time", "x1", "BEGIN_GROUP", "E5", "T", "END_1", "ENDS",
+            "RECORD_BYTES", "USA_NASA_PDS_1_0007",
+        ];
+        match self.random.below(12) {
+            0 => "N".repeat(60),
+            1 => "n_".repeat(self.random.below(29)) + "n",
+            _ => self.random.pick(NAMES).to_string(),
+        }
+    }
+
+    fn value(&mut self) {
+        match self.random.below(12) {
+            0 | 1 => self.members("(", 1, ")"),
+            2 => {
+                self.put("(");
+                for _ in 0..1 + self.random.below(3) {
+                    self.members("(", 1, ")");
+                }
+                self.put(")");
+            }
+            3 => self.members("{", 0, "}"),
+            _ => self.scalar(),
+        }
+    }
+
+    fn members(&mut self, opening: &str, least: usize, closing: &str) {
+        self.put(opening);
+        for at in 0..least + self.random.below(4) {
+            if at > 0 {
+                self.put(",");
+            }
+            self.scalar();
+        }
+        self.put(closing);
+    }
+
+    fn scalar(&mut self) {
+        match self.random.below(7) {
+            0 => self.number(Self::integer),
+            1 => self.number(Self::based_integer),
+            2 => self.number(Self::real),
+            3 => self.moment(),
+            4 => self.text(),
+            5 => self.symbol(),
+            _ => {
+                let name = self.name();
+                self.put(&name);
+            }
+        }
+    }
+
+    fn number(&mut self, word: fn(&mut Self) -> String) {
+        let word = word(self);
+        self.put(&word);
+        if self.random.one_in(3) {
+            self.units();
+        }
+    }
+
+    fn sign(&mut self) -> &'static str {
+        self.random.pick(&["", "", "+", "-"])
+    }
+
+    /// So many digits, any of which may be 0.
+    fn digits(&mut self, count: usize) -> String {
+        (0..count)
+            .map(|_| char::from(b'0' + self.random.below(10) as u8))
+            .collect()
+    }
+
+    fn integer(&mut self) -> String {
+        let sign = self.sign();
+        let digits = match self.random.below(10) {
+            0 => i64::MAX.to_string(),
+            1 => "0".repeat(1 + self.random.below(40)),
+            _ => {
+                let count = 1 + self.random.below(18);
+                self.digits(count)
+            }
+        };
+        format!("{sign}{digits}")
+    }
+
+    fn based_integer(&mut self) -> String {
+        let radix = 2 + self.random.below(15);
+        let sign = self.sign();
+        // Fifteen digits below 16 stay within 60 bits.
+        let digits: String = (0..1 + self.random.below(15))
+            .map(|_| b"0123456789abcdef"[self.random.below(radix)])
+            .map(char::from)
+            .collect();
+        let digits = match self.random.one_in(2) {
+            true => digits.to_ascii_uppercase(),
+            false => digits,
+        };
+        let zeros = "0".repeat(self.random.below(3));
+        format!("{zeros}{radix}#{sign}{zeros}{digits}#")
+    }
+
+    fn real(&mut self) -> String {
+        let sign = self.sign();
+        let whole_count = self.random.below(10);
+        let whole = self.digits(whole_count);
+        let fraction_count = match whole_count {
+            0 => 1 + self.random.below(8),
+            _ => self.random.below(9),
+        };
+        let fraction = self.digits(fraction_count);
+        let period = match whole.is_empty() || !fraction.is_empty() || self.random.one_in(2) {
+            true => ".",
+            false => "",
+        };
+        let exponent = match period.is_empty() || self.random.one_in(2) {
+            true => self.exponent(),
+            false => String::new(),
+        };
+        format!("{sign}{whole}{period}{fraction}{exponent}")
+    }
+
+    fn exponent(&mut self) -> String {
+        let mark = self.random.pick(&["E", "e"]);
+        let sign = self.sign();
+        let size = match self.random.one_in(4) {
+            // Far enough from 999 for the digits to be moved either way.
+            true => self.random.below(950),
+            false => self.random.below(12),
+        };
+        format!("{mark}{sign}{size}")
+    }
+
+    fn units(&mut self) {
+        self.put("<");
+        for at in 0..1 + self.random.below(3) {
+            if at > 0 {
+                let operator = self.random.pick(&["*", "/"]);
+                self.put(operator);
+            }
+            let name = self.random.pick(&["KM", "sec", "BYTES", "m_2"]);
+            self.put(name);
+            if self.random.one_in(3) {
+                self.put("**");
+                let exponent = self
+                    .random
+                    .pick(&["2", "-2", "+1", "1", "0", "99", "-99", "007"]);
+                self.put(exponent);
+            }
+        }
+        self.put(">");
+    }
+
+    fn moment(&mut self) {
+        let word = match self.random.below(3) {
+            0 => self.date(),
+            1 => self.time(),
+            _ => {
+                let mark = self.random.pick(&["T", "t"]);
+                format!("{}{mark}{}", self.date(), self.time())
+            }
+        };
+        self.put(&word);
+    }
+
+    fn date(&mut self) -> String {
+        let year = 1 + match self.random.one_in(3) {
+            true => self.random.below(9999),
+            false => 1970 + self.random.below(60),
+        };
+        match self.random.below(3) {
+            0 => format!("{year:04}-{:03}", 1 + self.random.below(365)),
+            1 => format!("{year:04}-{}", 1 + self.random.below(365)),
+            _ => {
+                let (month, day) = (1 + self.random.below(12), 1 + self.random.below(28));
+                match self.random.one_in(2) {
+                    true => format!("{year:04}-{month:02}-{day:02}"),
+                    false => format!("{year:04}-{month}-{day}"),
+                }
+            }
+        }
+    }
+
+    fn time(&mut self) -> String {
+        let (hour, minute, second) = (
+            self.random.below(24),
+            self.random.below(60),
+            self.random.below(60),
+        );
+        let seconds = match self.random.below(4) {
+            0 => String::new(),
+            1 => format!(":{second}"),
+            2 => format!(":{second:02}"),
+            _ => {
+                let count = self.random.below(10);
+                format!(":{second:02}.{}000", self.digits(count))
+            }
+        };
+        let zone = self.zone();
+        match self.random.one_in(3) {
+            true => format!("{hour}:{minute}{seconds}{zone}"),
+            false => format!("{hour:02}:{minute:02}{seconds}{zone}"),
+        }
+    }
+
+    fn zone(&mut self) -> String {
+        let sign = self.random.pick(&["+", "-"]);
+        let (hour, minute) = (self.random.below(13), self.random.below(60));
+        match self.random.below(6) {
+            0 => "Z".to_string(),
+            1 => "z".to_string(),
+            2 => format!("{sign}{hour}"),
+            3 => format!("{sign}{hour:02}:{minute:02}"),
+            4 => format!("{sign}{hour}:{minute}"),
+            _ => String::new(),
+        }
+    }
+
+    fn text(&mut self) {
+        #[rustfmt::skip]
+        const PIECES: &[&str] = &[
+            "word", " ", "  ", "-", "\n", "\r\n", "\t", "\x0c", "\x0b", "\0", "\x7f",
+            "\x1b", "-\n", "- \n", "'", "/* */", "\\n", "\n  ", "END",
+        ];
+        let text: String = (0..self.random.below(8))
+            .map(|_| self.random.pick(PIECES))
+            .collect();
+        self.put(&format!("\"{text}\""));
+    }
+
+    fn symbol(&mut self) {
+        #[rustfmt::skip]
+        const SYMBOLS: &[&str] = &[
+            "END", "object", "IO", "voyager_2", "U13-A4B", "FILTER+_7", " ", "\"", "~",
+            "A__B", "/*", "*/", "9", "a;b",
+        ];
+        let symbol = match self.random.below(6) {
+            0 => "s".repeat(1 + self.random.below(255)),
+            _ => self.random.pick(SYMBOLS).to_string(),
+        };
+        self.put(&format!("'{symbol}'"));
+    }
+}
+
+/// A label, a table over it, and what to ask of them.
+#[derive(Debug, Clone)]
+pub struct TableCase {
+    pub label: Vec<u8>,
+    pub table: Vec<u8>,
+    /// Mostly the offset of a row.
+    pub row: usize,
+    pub name: Vec<u8>,
+}
+
+/// A table of a good label, often damaged, with a row and a name to ask for.
+pub fn table_case(random: &mut Random) -> TableCase {
+    let mut label = good_label(random);
+    // A longer label would only ever give the one answer.
+    if label.len() > LONGEST_LABEL && !random.one_in(10) {
+        label.truncate(LONGEST_LABEL);
+    }
+    let mut table = table_of(&label);
+    if random.one_in(2) {
+        for _ in 0..1 + random.below(2) {
+            damage_table(random, &mut table, label.len());
+        }
+    }
+    if random.one_in(20) {
+        damage(random, &mut label);
+    }
+    let row = some_row(random, &table);
+    let name = some_name(random, &label, &table);
+    TableCase {
+        label,
+        table,
+        row,
+        name,
+    }
+}
+
+/// The table of a label, or the smallest proper one if it has none.
+pub fn table_of(label: &[u8]) -> Vec<u8> {
+    let mut table = vec![0; read(label, &mut []).length];
+    match read(label, &mut table).code {
+        0 => table,
+        _ => vec![99, 0, 0],
+    }
+}
+
+fn damage_table(random: &mut Random, table: &mut Vec<u8>, label_length: usize) {
+    let starts = row_starts(table);
+    let Some(last) = starts.len().checked_sub(1) else {
+        table.push(random.bits() as u8);
+        return;
+    };
+    let which = random.below(starts.len());
+    let start = starts[which];
+    let end = if which == last {
+        table.len()
+    } else {
+        starts[which + 1]
+    };
+    match random.below(9) {
+        0 => table[start] = random.pick(&[0, 1, 2, 3, 4, 5, 6, 10, 12, 14, 15, 20, 21, 22, 23, 99]),
+        1 | 2 => change_body(random, &mut table[start + 1..end]),
+        3 => table.truncate(start + random.below(end - start + 1)),
+        4 => drop(table.drain(start..end)),
+        5 => {
+            let row = table[start..end].to_vec();
+            table.splice(start..start, row);
+        }
+        6 => move_span(random, &mut table[start..end], label_length),
+        7 => {
+            let row = table[start..end].to_vec();
+            let there = starts[random.below(starts.len())];
+            table.splice(there..there, row);
+        }
+        _ => {
+            let row = random_row(random, label_length);
+            table.splice(start..start, row);
+        }
+    }
+}
+
+fn change_body(random: &mut Random, body: &mut [u8]) {
+    if body.is_empty() {
+        return;
+    }
+    let at = random.below(body.len());
+    body[at] = match random.below(4) {
+        0 => body[at] ^ 1 << random.below(8),
+        1 => body[at].wrapping_add(1),
+        2 => random.pick(&[0, 1, 2, 3, 9, 10, 99, 100, 127, 128, 157, 255]),
+        _ => random.bits() as u8,
+    };
+}
+
+/// Moves the ends of a row's span by a little or a lot, if it has one.
+fn move_span(random: &mut Random, row: &mut [u8], label_length: usize) {
+    let span = match row {
+        [1 | 2 | 3 | 5 | 13 | 14, span @ ..] => span,
+        [15, _, span @ ..] => span,
+        _ => return,
+    };
+    if span.len() < 4 {
+        return;
+    }
+    let end = random.below(2) * 2;
+    let old = u16::from_be_bytes([span[end], span[end + 1]]);
+    let new = match random.below(5) {
+        0 => old.wrapping_add(1),
+        1 => old.wrapping_sub(1),
+        2 => label_length as u16,
+        3 => (label_length as u16).wrapping_add(1),
+        _ => random.below(label_length + 1) as u16,
+    };
+    span[end..end + 2].copy_from_slice(&new.to_be_bytes());
+}
+
+/// A row that may be sound in itself but comes from nowhere.
+fn random_row(random: &mut Random, label_length: usize) -> Vec<u8> {
+    let kind = random.pick(&[1, 2, 3, 4, 5, 6, 10, 11, 12, 13, 14, 15, 20, 21, 22, 23, 99]);
+    let mut row = vec![0; row_length(kind)];
+    row[0] = kind;
+    if random.one_in(2) {
+        move_span(random, &mut row, label_length);
+        change_body(random, &mut row[1..]);
+    }
+    row
+}
+
+fn row_length(kind: u8) -> usize {
+    match kind {
+        1..=3 | 5 | 13 | 14 => 5,
+        10 => 9,
+        11 => 11,
+        12 => 15,
+        15 => 7,
+        99 => 3,
+        _ => 1,
+    }
+}
+
+/// Where rows begin, as far as the kinds are to be trusted.
+fn row_starts(table: &[u8]) -> Vec<usize> {
+    let mut starts = Vec::new();
+    let mut at = 0;
+    while at < table.len() {
+        starts.push(at);
+        at += row_length(table[at]);
+    }
+    starts
+}
+
+/// Any offset at times; mostly that of a row, and more often than not of one
+/// that a lookup or a text reader may ask for.
+fn some_row(random: &mut Random, table: &[u8]) -> usize {
+    let starts = row_starts(table);
+    let of_kinds = |kinds: &[u8]| -> Vec<usize> {
+        let wanted = |&at: &usize| kinds.contains(&table[at]);
+        starts.iter().copied().filter(wanted).collect()
+    };
+    let rows = match random.below(8) {
+        0 => return random.below(table.len() + 3),
+        1 => starts,
+        2..=4 => of_kinds(&[13]),
+        _ => of_kinds(&[1, 2, 3, 4, 5, 6, 99]),
+    };
+    match rows.is_empty() {
+        true => 0,
+        false => random.pick(&rows),
+    }
+}
+
+/// Mostly a name that the table has, in either case.
+fn some_name(random: &mut Random, label: &[u8], table: &[u8]) -> Vec<u8> {
+    let names: Vec<&[u8]> = row_starts(table)
+        .iter()
+        .filter_map(|&at| match table[at..] {
+            [1..=3, a, b, c, d, ..] => {
+                let offset = |high, low| usize::from(u16::from_be_bytes([high, low]));
+                label.get(offset(a, b)..offset(c, d))
+            }
+            _ => None,
+        })
+        .collect();
+    if names.is_empty() || random.one_in(6) {
+        return random
+            .pick(&[&b"A"[..], b"", b"absent", b"A ", b"\xc1", b"END"])
+            .to_vec();
+    }
+    let name = random.pick(&names);
+    match random.below(3) {
+        0 => name.to_ascii_lowercase(),
+        1 => name.to_ascii_uppercase(),
+        _ => name.to_vec(),
+    }
+}

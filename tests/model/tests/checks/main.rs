@@ -1,0 +1,8 @@
+//! Checks of the model: the examples of the documents, the rulings, and what
+//! must hold of every label and table.
+
+mod examples;
+mod properties;
+mod rulings;
+mod support;
+mod vectors;
