@@ -13,4 +13,5 @@ pub mod Reading
 pub mod Proper
 pub mod Meaning
 pub mod Written
+pub mod Asked
 pub mod Examples

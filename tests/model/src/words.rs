@@ -300,7 +300,7 @@ fn real(minus: bool, whole: &[u8], fraction: &[u8], exponent: i64) -> Result<Rea
     let power = exponent
         .saturating_sub(fraction.len() as i64)
         .saturating_add(zeros);
-    if power.abs() > LARGEST_POWER {
+    if !(-LARGEST_POWER..=LARGEST_POWER).contains(&power) {
         return Err(PAST_LIMIT);
     }
     let number = number as i64;

@@ -138,6 +138,7 @@ fn limits_of_reals_hold_as_held() {
     value("1E0000000001", "real 1 power 1");
     value("1E-999", "real 1 power -999");
     value_refused("1E-1000", 5);
+    value_refused("-8.1E-99999999999999999999", 5);
     value_refused("0.1E-999", 5);
     value("0E99999999999999999999999", "real 0 power 0");
     value_refused("1E99999999999999999999999", 5);

@@ -1,0 +1,127 @@
+-- What is asked of a table: the text of a row, the name of a row, and an attribute by its name.
+use Prim.Native.Nat.{ℕ, _+_, _≤_, _<_}
+use mathlib.Core.Path.{_≡_}
+use mathlib.Core.List.{List, [], _∷_, _++_, map}
+use lib.ListN.{length, drop}
+use Rattle.rules.specs.Bytes.{fold}
+use Rattle.rules.specs.Data.{Span, Kind, Row, attribute, pointer, opened, closed, an-integer, a-real, a-moment, a-text, a-symbol, a-unit, sequence, sequence-end, set, set-end, last}
+use Rattle.rules.specs.Table.{encode, table}
+use Rattle.rules.specs.Reading.{Said}
+use Rattle.rules.specs.Proper.{stretch, Verdict, proper-rows, improper-at, Ruled}
+use Rattle.rules.specs.Meaning.{reassemble, foldAll}
+
+-- the rows from an offset of a table on; no offset inside a row
+pub data From : ℕ → List Row → List Row → Type 0 where
+  here : {rs : List Row} → From 0 rs rs
+  later : {n : ℕ} {r : Row} {rs qs : List Row} → From n rs qs → From (length (encode r) + n) (r ∷ rs) qs
+
+-- the row that starts at an offset
+abbrev pub Starts : ℕ → List Row → Row → Type 0
+Starts n rs r = (qs : List Row) × From n rs (r ∷ qs)
+
+abbrev pub says : ℕ → ℕ → ℕ → Said
+says c i n = record { code = c; place = i; size = n }
+
+-- ---- The text reader takes label, table and row offset: 1, 12, 15 (not kind 13), 11, else 0, with place 0 throughout except as 1 and 12 say, and the
+-- text's length likewise.
+pub data Texted (label lent : List ℕ) (row : ℕ) (room : List ℕ) : Said → List ℕ → Type 0 where
+  long-label : 65535 < length label → Texted label lent row room (says 1 65535 0) room
+  no-table : {at : ℕ} → length label ≤ 65535 → Ruled label lent (improper-at at) → Texted label lent row room (says 12 at 0) room
+  no-text : {rows : List Row} → length label ≤ 65535 → Ruled label lent (proper-rows rows) → ((p : Span) → Starts row rows (a-text p) → ⊥) →
+      Texted label lent row room (says 15 0 0) room
+  short-room : {rows : List Row} {p : Span} → length label ≤ 65535 → Ruled label lent (proper-rows rows) → Starts row rows (a-text p) →
+      length room < length (reassemble (stretch label p)) → Texted label lent row room (says 11 0 (length (reassemble (stretch label p)))) room
+  given : {rows : List Row} {p : Span} → length label ≤ 65535 → Ruled label lent (proper-rows rows) → Starts row rows (a-text p) →
+      length (reassemble (stretch label p)) ≤ length room →
+      Texted label lent row room (says 0 0 (length (reassemble (stretch label p)))) (reassemble (stretch label p) ++ drop (length (reassemble (stretch label p))) room)
+
+-- ---- The name view hands back the row's own stretch of the lent label, for kinds 1, 2, 3, 5, 14, 15 of a proper table over at most 65,535 bytes; else an
+-- empty one at the label's start.
+pub data Names : Row → Span → Type 0 where
+  of-attribute : {p : Span} → Names (attribute p) p
+  of-pointer : {p : Span} → Names (pointer p) p
+  of-block : {k : Kind} {p : Span} → Names (opened k p) p
+  of-symbol : {p : Span} → Names (a-symbol p) p
+  of-unit : {op : _} {p : Span} {w : _} → Names (a-unit op p w) p
+
+-- the name that a row of a proper table shows
+pub record Shows (label lent : List ℕ) (row : ℕ) (p : Span) : Type 0 where
+  pub short : length label ≤ 65535
+  pub rows : List Row
+  pub proper : Ruled label lent (proper-rows rows)
+  pub shown : Row
+  pub starts : Starts row rows shown
+  pub name : Names shown p
+
+abbrev pub nowhere : Span
+nowhere = record { from = 0; upto = 0 }
+
+pub data Viewed (label lent : List ℕ) (row : ℕ) : Span → Type 0 where
+  in-view : {p : Span} → Shows label lent row p → Viewed label lent row p
+  no-view : ((p : Span) → Shows label lent row p → ⊥) → Viewed label lent row nowhere
+
+-- ---- The lookup takes label, table, name and row offset: 1, 12, 15 (not the start of a row of kind 1 to 6 or 99), 14, or 0 with the offset of the first
+-- attribute of that name at or after it.
+
+-- a row of kind 1 to 6 or 99
+pub data Line : Row → Type 0 where
+  an-attribute : {p : Span} → Line (attribute p)
+  a-pointer : {p : Span} → Line (pointer p)
+  an-opening : {k : Kind} {p : Span} → Line (opened k p)
+  a-closing : {k : Kind} → Line (closed k)
+  the-last : {n : ℕ} → Line (last n)
+
+-- rows that neither open nor close a block, nor end the table
+pub data Flat : Row → Type 0 where
+  flat-attribute : {p : Span} → Flat (attribute p)
+  flat-pointer : {p : Span} → Flat (pointer p)
+  flat-integer : {w : _} → Flat (an-integer w)
+  flat-real : {x : _} → Flat (a-real x)
+  flat-moment : {t : _} → Flat (a-moment t)
+  flat-text : {p : Span} → Flat (a-text p)
+  flat-symbol : {p : Span} → Flat (a-symbol p)
+  flat-unit : {op : _} {p : Span} {w : _} → Flat (a-unit op p w)
+  flat-sequence : Flat sequence
+  flat-sequence-end : Flat sequence-end
+  flat-set : Flat set
+  flat-set-end : Flat set-end
+
+-- A block reaches to its own closing row, blocks within blocks included: the rows between the two.
+pub data Inner : List Row → Type 0 where
+  no-row : Inner []
+  and-flat : {r : Row} {rs : List Row} → Flat r → Inner rs → Inner (r ∷ rs)
+  and-block : {k : Kind} {p : Span} (qs : List Row) {rs : List Row} → Inner qs → Inner rs → Inner (opened k p ∷ (qs ++ (closed k ∷ rs)))
+
+-- Names are compared case folded.
+abbrev pub Called : List ℕ → List ℕ → Row → Type 0
+Called label name r = (p : Span) × (r ≡ attribute p) × (foldAll (stretch label p) ≡ foldAll name)
+
+-- how far on the attribute stands, or that there is none
+pub data Finding : Type 0 where
+  after : ℕ → Finding
+  absent : Finding
+
+abbrev pub further : ℕ → Finding → Finding
+further n (after k) = after (n + k)
+further n absent = absent
+
+-- From a row on: the first attribute of that name. It stays within the block that the row stands in, a closing row stands in the block it closes, and a
+-- block is passed over whole.
+pub data Looks (label name : List ℕ) : List Row → Finding → Type 0 where
+  found : {r : Row} {rs : List Row} → Called label name r → Looks label name (r ∷ rs) (after 0)
+  passed : {r : Row} {rs : List Row} {z : Finding} → Flat r → (Called label name r → ⊥) → Looks label name rs z → Looks label name (r ∷ rs) (further (length (encode r)) z)
+  passed-whole : {k : Kind} {p : Span} (qs : List Row) {rs : List Row} {z : Finding} → Inner qs → Looks label name rs z →
+      Looks label name (opened k p ∷ (qs ++ (closed k ∷ rs))) (further (length (table (opened k p ∷ (qs ++ (closed k ∷ []))))) z)
+  block-ends : {k : Kind} {rs : List Row} → Looks label name (closed k ∷ rs) absent
+  table-ends : {n : ℕ} {rs : List Row} → Looks label name (last n ∷ rs) absent
+
+-- code, place, and the offset of the attribute
+pub data Sought (label lent name : List ℕ) (row : ℕ) : Said → Type 0 where
+  long-label : 65535 < length label → Sought label lent name row (says 1 65535 0)
+  no-table : {at : ℕ} → length label ≤ 65535 → Ruled label lent (improper-at at) → Sought label lent name row (says 12 at 0)
+  no-line : {rows : List Row} → length label ≤ 65535 → Ruled label lent (proper-rows rows) → ((r : Row) → Starts row rows r → Line r → ⊥) →
+      Sought label lent name row (says 15 0 0)
+  no-name : {rows qs : List Row} {r : Row} → length label ≤ 65535 → Ruled label lent (proper-rows rows) → From row rows (r ∷ qs) → Line r →
+      Looks label name (r ∷ qs) absent → Sought label lent name row (says 14 0 0)
+  at-offset : {rows qs : List Row} {r : Row} {k : ℕ} → length label ≤ 65535 → Ruled label lent (proper-rows rows) → From row rows (r ∷ qs) → Line r →
+      Looks label name (r ∷ qs) (after k) → Sought label lent name row (says 0 0 (row + k))
