@@ -17,3 +17,5 @@ pub mod Walk
 pub mod Checks
 pub mod Judge
 pub mod OwnTable
+pub mod Seeking
+pub mod Asked

@@ -16,4 +16,5 @@ pub mod WordBytes
 pub mod Spelling
 pub mod Lines
 pub mod RoundTrip
+pub mod Outcome
 mod Examples

@@ -1,13 +1,12 @@
 -- What is asked of a table: the text of a row, the name of a row, and an attribute by its name.
 use Prim.Native.Nat.{ℕ, _+_, _≤_, _<_}
 use mathlib.Core.Path.{_≡_}
-use mathlib.Core.List.{List, [], _∷_, _++_, map}
+use mathlib.Core.List.{List, [], _∷_, _++_}
 use lib.ListN.{length, drop}
-use Rattle.rules.specs.Bytes.{fold}
 use Rattle.rules.specs.Data.{Span, Kind, Row, attribute, pointer, opened, closed, an-integer, a-real, a-moment, a-text, a-symbol, a-unit, sequence, sequence-end, set, set-end, last}
 use Rattle.rules.specs.Table.{encode, table}
 use Rattle.rules.specs.Reading.{Said}
-use Rattle.rules.specs.Proper.{stretch, Verdict, proper-rows, improper-at, Ruled}
+use Rattle.rules.specs.Proper.{stretch, proper-rows, improper-at, Ruled}
 use Rattle.rules.specs.Meaning.{reassemble, foldAll}
 
 -- the rows from an offset of a table on; no offset inside a row
@@ -22,17 +21,24 @@ Starts n rs r = (qs : List Row) × From n rs (r ∷ qs)
 abbrev pub says : ℕ → ℕ → ℕ → Said
 says c i n = record { code = c; place = i; size = n }
 
+-- what every question answers of a label over 65,535 bytes, and of a table that is not proper: 1, 12
+pub data Refused (label lent : List ℕ) : Said → Type 0 where
+  long-label : 65535 < length label → Refused label lent (says 1 65535 0)
+  no-table : {at : ℕ} → length label ≤ 65535 → Ruled label lent (improper-at at) → Refused label lent (says 12 at 0)
+
+-- the rows of a proper table over at most 65,535 bytes
+pub record Rows (label lent : List ℕ) (rows : List Row) : Type 0 where
+  pub short : length label ≤ 65535
+  pub proper : Ruled label lent (proper-rows rows)
+
 -- ---- The text reader takes label, table and row offset: 1, 12, 15 (not kind 13), 11, else 0, with place 0 throughout except as 1 and 12 say, and the
 -- text's length likewise.
 pub data Texted (label lent : List ℕ) (row : ℕ) (room : List ℕ) : Said → List ℕ → Type 0 where
-  long-label : 65535 < length label → Texted label lent row room (says 1 65535 0) room
-  no-table : {at : ℕ} → length label ≤ 65535 → Ruled label lent (improper-at at) → Texted label lent row room (says 12 at 0) room
-  no-text : {rows : List Row} → length label ≤ 65535 → Ruled label lent (proper-rows rows) → ((p : Span) → Starts row rows (a-text p) → ⊥) →
-      Texted label lent row room (says 15 0 0) room
-  short-room : {rows : List Row} {p : Span} → length label ≤ 65535 → Ruled label lent (proper-rows rows) → Starts row rows (a-text p) →
-      length room < length (reassemble (stretch label p)) → Texted label lent row room (says 11 0 (length (reassemble (stretch label p)))) room
-  given : {rows : List Row} {p : Span} → length label ≤ 65535 → Ruled label lent (proper-rows rows) → Starts row rows (a-text p) →
-      length (reassemble (stretch label p)) ≤ length room →
+  text-refused : {s : Said} → Refused label lent s → Texted label lent row room s room
+  no-text : {rows : List Row} → Rows label lent rows → ((p : Span) → Starts row rows (a-text p) → ⊥) → Texted label lent row room (says 15 0 0) room
+  short-room : {rows : List Row} {p : Span} → Rows label lent rows → Starts row rows (a-text p) → length room < length (reassemble (stretch label p)) →
+      Texted label lent row room (says 11 0 (length (reassemble (stretch label p)))) room
+  given : {rows : List Row} {p : Span} → Rows label lent rows → Starts row rows (a-text p) → length (reassemble (stretch label p)) ≤ length room →
       Texted label lent row room (says 0 0 (length (reassemble (stretch label p)))) (reassemble (stretch label p) ++ drop (length (reassemble (stretch label p))) room)
 
 -- ---- The name view hands back the row's own stretch of the lent label, for kinds 1, 2, 3, 5, 14, 15 of a proper table over at most 65,535 bytes; else an
@@ -46,9 +52,8 @@ pub data Names : Row → Span → Type 0 where
 
 -- the name that a row of a proper table shows
 pub record Shows (label lent : List ℕ) (row : ℕ) (p : Span) : Type 0 where
-  pub short : length label ≤ 65535
   pub rows : List Row
-  pub proper : Ruled label lent (proper-rows rows)
+  pub told : Rows label lent rows
   pub shown : Row
   pub starts : Starts row rows shown
   pub name : Names shown p
@@ -96,32 +101,27 @@ pub data Inner : List Row → Type 0 where
 abbrev pub Called : List ℕ → List ℕ → Row → Type 0
 Called label name r = (p : Span) × (r ≡ attribute p) × (foldAll (stretch label p) ≡ foldAll name)
 
--- how far on the attribute stands, or that there is none
+-- where the attribute stands, or that there is none
 pub data Finding : Type 0 where
-  after : ℕ → Finding
+  stands : ℕ → Finding
   absent : Finding
 
-abbrev pub further : ℕ → Finding → Finding
-further n (after k) = after (n + k)
-further n absent = absent
-
--- From a row on: the first attribute of that name. It stays within the block that the row stands in, a closing row stands in the block it closes, and a
--- block is passed over whole.
-pub data Looks (label name : List ℕ) : List Row → Finding → Type 0 where
-  found : {r : Row} {rs : List Row} → Called label name r → Looks label name (r ∷ rs) (after 0)
-  passed : {r : Row} {rs : List Row} {z : Finding} → Flat r → (Called label name r → ⊥) → Looks label name rs z → Looks label name (r ∷ rs) (further (length (encode r)) z)
-  passed-whole : {k : Kind} {p : Span} (qs : List Row) {rs : List Row} {z : Finding} → Inner qs → Looks label name rs z →
-      Looks label name (opened k p ∷ (qs ++ (closed k ∷ rs))) (further (length (table (opened k p ∷ (qs ++ (closed k ∷ []))))) z)
-  block-ends : {k : Kind} {rs : List Row} → Looks label name (closed k ∷ rs) absent
-  table-ends : {n : ℕ} {rs : List Row} → Looks label name (last n ∷ rs) absent
+-- From the row at an offset on: the first attribute of that name. It stays within the block that the row stands in, a closing row stands in the block it
+-- closes, and a block is passed over whole.
+pub data Looks (label name : List ℕ) : ℕ → List Row → Finding → Type 0 where
+  found : {at : ℕ} {r : Row} {rs : List Row} → Called label name r → Looks label name at (r ∷ rs) (stands at)
+  passed : {at : ℕ} {r : Row} {rs : List Row} {z : Finding} → Flat r → (Called label name r → ⊥) → Looks label name (at + length (encode r)) rs z →
+      Looks label name at (r ∷ rs) z
+  passed-whole : {at : ℕ} {k : Kind} {p : Span} (qs : List Row) {rs : List Row} {z : Finding} → Inner qs →
+      Looks label name (at + length (table (opened k p ∷ (qs ++ (closed k ∷ []))))) rs z → Looks label name at (opened k p ∷ (qs ++ (closed k ∷ rs))) z
+  block-ends : {at : ℕ} {k : Kind} {rs : List Row} → Looks label name at (closed k ∷ rs) absent
+  table-ends : {at n : ℕ} {rs : List Row} → Looks label name at (last n ∷ rs) absent
 
 -- code, place, and the offset of the attribute
 pub data Sought (label lent name : List ℕ) (row : ℕ) : Said → Type 0 where
-  long-label : 65535 < length label → Sought label lent name row (says 1 65535 0)
-  no-table : {at : ℕ} → length label ≤ 65535 → Ruled label lent (improper-at at) → Sought label lent name row (says 12 at 0)
-  no-line : {rows : List Row} → length label ≤ 65535 → Ruled label lent (proper-rows rows) → ((r : Row) → Starts row rows r → Line r → ⊥) →
-      Sought label lent name row (says 15 0 0)
-  no-name : {rows qs : List Row} {r : Row} → length label ≤ 65535 → Ruled label lent (proper-rows rows) → From row rows (r ∷ qs) → Line r →
-      Looks label name (r ∷ qs) absent → Sought label lent name row (says 14 0 0)
-  at-offset : {rows qs : List Row} {r : Row} {k : ℕ} → length label ≤ 65535 → Ruled label lent (proper-rows rows) → From row rows (r ∷ qs) → Line r →
-      Looks label name (r ∷ qs) (after k) → Sought label lent name row (says 0 0 (row + k))
+  search-refused : {s : Said} → Refused label lent s → Sought label lent name row s
+  no-line : {rows : List Row} → Rows label lent rows → ((r : Row) → Starts row rows r → Line r → ⊥) → Sought label lent name row (says 15 0 0)
+  no-name : {rows qs : List Row} {r : Row} → Rows label lent rows → From row rows (r ∷ qs) → Line r → Looks label name row (r ∷ qs) absent →
+      Sought label lent name row (says 14 0 0)
+  at-offset : {rows qs : List Row} {r : Row} {k : ℕ} → Rows label lent rows → From row rows (r ∷ qs) → Line r → Looks label name row (r ∷ qs) (stands k) →
+      Sought label lent name row (says 0 0 k)

@@ -13,5 +13,6 @@ pub mod Reading
 pub mod Proper
 pub mod Meaning
 pub mod Written
+pub mod Writing
 pub mod Asked
 pub mod Examples

@@ -119,7 +119,7 @@ no-more : (s : List ℕ) → noMore s ≡ true → s ≡ []
 no-more [] h = refl
 no-more (b ∷ s) h = absurd (false≢true h)
 
-encode-size : (r : Row) → 1 ≤ length (encode r)
+pub encode-size : (r : Row) → 1 ≤ length (encode r)
 encode-size (attribute p) = omega arith
 encode-size (pointer p) = omega arith
 encode-size (opened k p) = omega arith

@@ -42,7 +42,7 @@ last-each rs r h = head (each-right rs (r ∷ []) h)
     head : {P : Row → Type 0} {x : Row} {xs : List Row} → Each P (x ∷ xs) → P x
     head (one p ps) = p
 
-table-append : (rs qs : List Row) → table (rs ++ qs) ≡ table rs ++ table qs
+pub table-append : (rs qs : List Row) → table (rs ++ qs) ≡ table rs ++ table qs
 table-append [] qs = refl
 table-append (r ∷ rs) qs = ap (λ (l : List ℕ). encode r ++ l) (table-append rs qs) ∙ sym (append-assoc (encode r) (table rs) (table qs))
 

@@ -1,0 +1,68 @@
+use Prim.Native.Nat.{_+_, _-_, _≤_}
+use mathlib.Core.Path.{_≡_}
+use lib.ListN.{length}
+use borrow.Author.Needs.{needs}
+use Rattle.examples.proofs.print.print_padded.Statement.{statement}
+use Rattle.examples.proofs.print.print_padded.Tie as tie
+use Rattle.examples.proofs.print.print_padded.Reads as reads
+use Rattle.examples.proofs.print.print_padded.Lts as lts
+use Rattle.io.proofs.print_decimal.Reads as print-decimal-reads
+use Rattle.io.proofs.write_all.Reads as write-all-reads
+
+abbrev Inv-loop : tie.InvT-loop
+Inv-loop n bound least₀ t4 least = 0 ≤ least
+
+abbrev μ-loop : tie.MeasureT-loop
+μ-loop n bound least₀ t4 least = least
+
+-- src/print.rt:23:5
+loop-holds : tie.Need-loop-holds Inv-loop μ-loop
+loop-holds c = search needs
+
+-- src/print.rt:26:30
+slice-aggregate-write-all : tie.Need-slice-aggregate-write-all Inv-loop μ-loop
+slice-aggregate-write-all c = search needs
+
+-- src/print.rt:26:13
+write-all-requires : tie.Need-write-all-requires Inv-loop μ-loop
+write-all-requires c κs = search needs
+
+-- src/print.rt:23:5
+loop-less : tie.Need-loop-less Inv-loop μ-loop
+loop-less c = search needs
+
+-- src/print.rt:23:5
+loop-again : tie.Need-loop-again Inv-loop μ-loop
+loop-again c = search needs
+
+-- src/print.rt:23:5
+loop-less-2 : tie.Need-loop-less-2 Inv-loop μ-loop
+loop-less-2 c = search needs
+
+-- src/print.rt:23:5
+loop-again-2 : tie.Need-loop-again-2 Inv-loop μ-loop
+loop-again-2 c = search needs
+
+-- src/print.rt:29:5
+print-decimal-requires : tie.Need-print-decimal-requires Inv-loop μ-loop
+print-decimal-requires c κs = search needs
+
+-- src/print.rt:21:1
+returns : tie.Need-returns Inv-loop μ-loop
+returns c = search needs
+
+pub print-padded-spec : {M : Type 1} → statement M
+print-padded-spec =
+    tie.close
+    (tie.spec
+    Inv-loop
+    μ-loop
+    loop-holds
+    slice-aggregate-write-all
+    write-all-requires
+    loop-less
+    loop-again
+    loop-less-2
+    loop-again-2
+    print-decimal-requires
+    returns)

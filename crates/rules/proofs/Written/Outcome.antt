@@ -1,0 +1,100 @@
+-- Every label and table have an outcome of writing, and one only.
+use Prim.Native.Nat.{ℕ, _≤_, _<_}
+use native.Mathlib.Omega.{arith}
+use mathlib.Core.Bool.{Bool, true, false}
+use mathlib.Core.Path.{_≡_, refl, sym, ap, subst, _∙_}
+use mathlib.Core.List.{List, _++_}
+use borrow.Author.Tests.{leb-true, leb-false}
+use lib.Dec.{leb}
+use lib.ListN.{length, drop}
+use Rattle.rules.specs.Data.{Row}
+use Rattle.rules.specs.Reading.{Said}
+use Rattle.rules.specs.Proper.{Verdict, proper-rows, improper-at, Ruled}
+use Rattle.rules.specs.Meaning.{meaning}
+use Rattle.rules.specs.Written.{canonical}
+use Rattle.rules.specs.Writing.{Writes, long-label, no-table, long-written, short-room, stored}
+use Rattle.rules.proofs.Tables.Judge.{judgeTable, verdict-sound, verdict-once}
+
+-- an outcome: what is said, and the room after
+abbrev pub Return : Type 0
+Return = Said × List ℕ
+
+same-rows : {rs qs : List Row} → proper-rows rs ≡ proper-rows qs → rs ≡ qs
+same-rows e = cc
+
+same-place : {i j : ℕ} → improper-at i ≡ improper-at j → i ≡ j
+same-place e = cc
+
+not-both : {rs : List Row} {i : ℕ} → proper-rows rs ≡ improper-at i → ⊥
+not-both e = let z : _≡_ {A = ℕ} 0 1 = cc in omega arith
+
+module _ (label lent room : List ℕ) where
+  -- where the table is proper, its canonical label decides
+  data Decided (c : List ℕ) : Said → List ℕ → Type 0 where
+    too-long : 65535 < length c → Decided c (record { code = 13; place = 65535; size = 0 }) room
+    no-room : length c ≤ 65535 → length room < length c → Decided c (record { code = 11; place = length c; size = length c }) room
+    written : length c ≤ 65535 → length c ≤ length room → Decided c (record { code = 0; place = length c; size = length c }) (c ++ drop (length c) room)
+
+  decided-once : {c : List ℕ} {s s′ : Said} {r r′ : List ℕ} → Decided c s r → Decided c s′ r′ → (s ≡ s′) × (r ≡ r′)
+  decided-once (too-long a) (too-long b) = (refl, refl)
+  decided-once (too-long a) (no-room b d) = absurd (omega arith)
+  decided-once (too-long a) (written b d) = absurd (omega arith)
+  decided-once (no-room a d) (too-long b) = absurd (omega arith)
+  decided-once (no-room a d) (no-room b e) = (refl, refl)
+  decided-once (no-room a d) (written b e) = absurd (omega arith)
+  decided-once (written a d) (too-long b) = absurd (omega arith)
+  decided-once (written a d) (no-room b e) = absurd (omega arith)
+  decided-once (written a d) (written b e) = (refl, refl)
+
+  -- an outcome by the three questions: the label's length, the verdict on the table, the canonical label
+  data Asked (s : Said) (r : List ℕ) : Type 0 where
+    label-long : 65535 < length label → s ≡ record { code = 1; place = 65535; size = 0 } → r ≡ room → Asked s r
+    table-bad : (at : ℕ) → length label ≤ 65535 → Ruled label lent (improper-at at) → s ≡ record { code = 12; place = at; size = 0 } → r ≡ room → Asked s r
+    table-good : (rows : List Row) → length label ≤ 65535 → Ruled label lent (proper-rows rows) → Decided (canonical (meaning label rows)) s r → Asked s r
+
+  asked : {s : Said} {r : List ℕ} → Writes label lent room s r → Asked s r
+  asked (long-label h) = label-long h refl refl
+  asked (no-table {at} h v) = table-bad at h v refl refl
+  asked (long-written {rows} h v a) = table-good rows h v (too-long a)
+  asked (short-room {rows} h v a b) = table-good rows h v (no-room a b)
+  asked (stored {rows} h v a b) = table-good rows h v (written a b)
+
+  both : {s s′ : Said} {r r′ : List ℕ} → Asked s r → Asked s′ r′ → (s ≡ s′) × (r ≡ r′)
+  both (label-long h e f) (label-long k g i) = (e ∙ sym g, f ∙ sym i)
+  both (label-long h e f) (table-bad at k v g i) = absurd (omega arith)
+  both (label-long h e f) (table-good rows k v d) = absurd (omega arith)
+  both (table-bad at h v e f) (label-long k g i) = absurd (omega arith)
+  both (table-bad at h v e f) (table-bad at′ k u g i) =
+      let p : at ≡ at′ = same-place (verdict-once label h lent v u) in
+      (e ∙ ap (λ (n : ℕ). record { code = 12; place = n; size = 0 }) p ∙ sym g, f ∙ sym i)
+  both (table-bad at h v e f) (table-good rows k u d) = absurd (not-both (verdict-once label h lent u v))
+  both (table-good rows h v d) (label-long k g i) = absurd (omega arith)
+  both (table-good rows h v d) (table-bad at k u g i) = absurd (not-both (verdict-once label h lent v u))
+  both {s} {s′} {r} {r′} (table-good rows h v d) (table-good rows′ k u x) =
+      decided-once d (subst (λ (q : List Row). Decided (canonical (meaning label q)) s′ r′) (sym (same-rows (verdict-once label h lent v u))) x)
+
+  -- no second outcome
+  pub writes-once : {s s′ : Said} {r r′ : List ℕ} → Writes label lent room s r → Writes label lent room s′ r′ → (s ≡ s′) × (r ≡ r′)
+  writes-once w w′ = both (asked w) (asked w′)
+
+  -- and always one
+  pub writes-some : (s : Said) × (r : List ℕ) × Writes label lent room s r
+  writes-some = by-length (leb (length label) 65535) refl
+    where
+      by-room : (rows : List Row) → length label ≤ 65535 → Ruled label lent (proper-rows rows) → length (canonical (meaning label rows)) ≤ 65535 →
+          (t : Bool) → leb (length (canonical (meaning label rows))) (length room) ≡ t → (s : Said) × (r : List ℕ) × Writes label lent room s r
+      by-room rows h v a true e = (_, _, stored h v a (leb-true (length (canonical (meaning label rows))) (length room) e))
+      by-room rows h v a false e = (_, _, short-room h v a (leb-false (length (canonical (meaning label rows))) (length room) e))
+
+      by-size : (rows : List Row) → length label ≤ 65535 → Ruled label lent (proper-rows rows) →
+          (t : Bool) → leb (length (canonical (meaning label rows))) 65535 ≡ t → (s : Said) × (r : List ℕ) × Writes label lent room s r
+      by-size rows h v true e = by-room rows h v (leb-true (length (canonical (meaning label rows))) 65535 e) (leb (length (canonical (meaning label rows))) (length room)) refl
+      by-size rows h v false e = (_, _, long-written h v (leb-false (length (canonical (meaning label rows))) 65535 e))
+
+      by-verdict : length label ≤ 65535 → (v : Verdict) → Ruled label lent v → (s : Said) × (r : List ℕ) × Writes label lent room s r
+      by-verdict h (proper-rows rows) v = by-size rows h v (leb (length (canonical (meaning label rows))) 65535) refl
+      by-verdict h (improper-at at) v = (_, _, no-table h v)
+
+      by-length : (t : Bool) → leb (length label) 65535 ≡ t → (s : Said) × (r : List ℕ) × Writes label lent room s r
+      by-length true e = by-verdict (leb-true (length label) 65535 e) (judgeTable label lent) (verdict-sound label (leb-true (length label) 65535 e) lent)
+      by-length false e = (_, _, long-label (leb-false (length label) 65535 e))
