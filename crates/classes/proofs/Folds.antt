@@ -1,4 +1,4 @@
--- Names compared case folded. Assumes nothing.
+-- Names compared case folded.
 use Prim.Native.Nat.{ℕ, suc, _+_, _-_, _≤_, _<_}
 use mathlib.Core.Bool.{Bool, true, false, _&&_}
 use mathlib.Core.Path.{_≡_, refl, sym, ap, _∙_}

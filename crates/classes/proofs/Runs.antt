@@ -1,4 +1,4 @@
--- A loop that passes a run, of any test of what is left: each turn is one constructor of the rule `Run`. Assumes nothing.
+-- A loop that passes a run, of any test of what is left: each turn is one constructor of the rule `Run`.
 use Prim.Native.Nat.{ℕ, suc, _+_, _-_, _≤_, _<_}
 use mathlib.Core.Bool.{Bool, true, false, not, _&&_}
 use mathlib.Core.Path.{_≡_, refl, sym, ap, _∙_}

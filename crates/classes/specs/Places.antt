@@ -1,4 +1,4 @@
--- Places in a list of bytes: the bytes between two, the byte at one, and where a run from one ends. Terms of private contracts. Assumes nothing.
+-- Places in a list of bytes: the bytes between two, the byte at one, and where a run from one ends. Terms of private contracts.
 use Prim.Native.Nat.{ℕ, _+_, _-_, _≤_, _<_, min, max}
 use mathlib.Core.Bool.{Bool}
 use mathlib.Core.Path.{_≡_}

@@ -1,4 +1,4 @@
--- The next element, in the rules' terms. Assumes nothing.
+-- The next element, in the rules' terms.
 use Prim.Native.Nat.{ℕ, _+_, _-_, _≤_}
 use mathlib.Core.Path.{_≡_, sym, ap, subst, _∙_}
 use mathlib.Core.List.{List, [], _++_, append-nil}

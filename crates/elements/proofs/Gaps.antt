@@ -1,4 +1,4 @@
--- Blanks and comments passed, in the rules' terms. Assumes nothing.
+-- Blanks and comments passed, in the rules' terms.
 use Prim.Native.Nat.{ℕ, suc, _+_, _-_, _≤_, _<_}
 use mathlib.Core.Bool.{Bool, true, false, _&&_, _||_, false≢true}
 use mathlib.Core.Path.{_≡_, refl, sym, ap, subst, _∙_}

@@ -1,4 +1,4 @@
--- Texts, symbols and signs at a place, in the rules' terms. Assumes nothing.
+-- Texts, symbols and signs at a place, in the rules' terms.
 use Prim.Native.Nat.{ℕ, _+_, _-_, _≤_, _<_}
 use mathlib.Core.Bool.{Bool, true, false, _&&_}
 use mathlib.Core.Path.{_≡_, refl, sym, ap, subst, _∙_}

@@ -1,4 +1,4 @@
--- A word at a place, in the rules' terms: the element that it is, past its limit, or of no form. Assumes nothing.
+-- A word at a place, in the rules' terms: the element that it is, past its limit, or of no form.
 use Prim.Native.Nat.{ℕ, _+_, _-_, _≤_, _<_}
 use mathlib.Core.Bool.{Bool, true, false, _&&_, _||_, true≢false}
 use mathlib.Core.Path.{_≡_, refl, sym, ap, subst, _∙_}

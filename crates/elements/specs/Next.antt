@@ -1,4 +1,4 @@
--- What `next` says of a label, in the rules' terms: the element found is the one that the rules find, at its place. Assumes nothing.
+-- What `next` says of a label, in the rules' terms: the element found is the one that the rules find, at its place.
 use Prim.Native.Nat.{ℕ, _+_, _-_, _≤_, _<_}
 use mathlib.Core.Path.{_≡_}
 use mathlib.Core.List.{List, map}

@@ -1,4 +1,4 @@
--- What the functions of the crate say of the places of a label. Assumes nothing.
+-- What the functions of the crate say of the places of a label.
 use Prim.Native.Nat.{ℕ, _+_, _-_, _≤_, _<_}
 use mathlib.Core.Bool.{true, false}
 use mathlib.Core.Path.{_≡_}

@@ -20,7 +20,7 @@ pub fn print_signed(minus: bool, size: u64) {
 // A number with zeros before it, up to the number of digits that the bound has; the bound is a power of ten.
 pub fn print_padded(n: u64, bound: u64) {
     let mut least = bound;
-    while least > 9 {
+    while least > 99 {
         least /= 10;
         if n < least {
             io::write_all(1, b"0");

@@ -1,4 +1,4 @@
--- What a word is by its first byte. Assumes nothing.
+-- What a word is by its first byte.
 use Prim.Native.Nat.{ℕ, _≤_}
 use mathlib.Core.Bool.{Bool, true, false, _&&_, false≢true}
 use mathlib.Core.Path.{_≡_, refl, sym, ap, _∙_}

@@ -1,4 +1,4 @@
--- The loop over an identifier. Assumes nothing.
+-- The loop over an identifier.
 use Prim.Native.Nat.{ℕ, _+_, _≤_, _<_}
 use mathlib.Core.Bool.{Bool, true, false, not}
 use mathlib.Core.Path.{_≡_, refl, sym, ap, _∙_}

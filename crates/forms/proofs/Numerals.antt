@@ -1,4 +1,4 @@
--- Numbers at a place of a word: one lemma for each answer of the code. Assumes nothing.
+-- Numbers at a place of a word: one lemma for each answer of the code.
 use Prim.Native.Nat.{ℕ, _+_, _-_, _≤_, _<_}
 use mathlib.Core.Bool.{Bool, true, false, not, cond, _&&_}
 use mathlib.Core.Option.{none, Option}

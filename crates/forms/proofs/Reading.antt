@@ -1,4 +1,4 @@
--- The pattern of words at a place of a word: one or two laws for each of its constructs. Assumes nothing.
+-- The pattern of words at a place of a word: one or two laws for each of its constructs.
 use Prim.Native.Nat.{ℕ, _+_, _-_, _≤_, _<_}
 use mathlib.Core.Bool.{Bool, true, false, cond, _||_, _&&_, false≢true, true≢false}
 use mathlib.Core.Option.{none, some, Option}

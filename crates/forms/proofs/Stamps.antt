@@ -1,4 +1,4 @@
--- Times and dates at a place of a word: one lemma for each answer of the code. Assumes nothing.
+-- Times and dates at a place of a word: one lemma for each answer of the code.
 use Prim.Native.Nat.{ℕ, _+_, _-_, _≤_, _<_}
 use mathlib.Core.Bool.{Bool, true, false, not}
 use mathlib.Core.Path.{_≡_, refl, sym, ap, _∙_}

@@ -1,4 +1,4 @@
--- The form of a word, as the code finds it, against the rules' pattern for words. Assumes nothing.
+-- The form of a word, as the code finds it, against the rules' pattern for words.
 use Prim.Native.Nat.{ℕ}
 use mathlib.Core.Bool.{Bool}
 use mathlib.Core.Option.{Option, none, some}

@@ -1,4 +1,4 @@
--- The elements of a label, each with the place where it stands, and the rows of its table. Assumes nothing.
+-- The elements of a label, each with the place where it stands, and the rows of its table.
 use Prim.Native.Nat.{ℕ, suc}
 use mathlib.Core.Bool.{Bool, false}
 use mathlib.Core.List.{List}

@@ -1,4 +1,4 @@
--- Elements: which bytes spell which element, what stands between them, and the faults of bytes that spell none. Assumes nothing.
+-- Elements: which bytes spell which element, what stands between them, and the faults of bytes that spell none.
 use Prim.Native.Nat.{ℕ, suc, _+_, _-_, _≤_, _<_}
 use Prim.Native.Char.{Char, code as byte}
 use mathlib.Core.Bool.{Bool, true, false, cond, not, _&&_, _||_}

@@ -1,4 +1,4 @@
--- The checked examples marked P, as one list. Assumes nothing.
+-- The checked examples marked P, as one list.
 use Prim.Native.Nat.{ℕ}
 use Prim.Native.String.{String}
 use mathlib.Core.Bool.{true, false}

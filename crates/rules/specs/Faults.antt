@@ -1,4 +1,4 @@
--- Where a list of elements stops being the beginning of a label, and the code of that. Assumes nothing.
+-- Where a list of elements stops being the beginning of a label, and the code of that.
 use Prim.Native.Nat.{ℕ}
 use mathlib.Core.Bool.{Bool}
 use mathlib.Core.List.{List, [], _∷_, _++_}

@@ -1,4 +1,4 @@
--- The meaning of a table: its rows without row 99's offset, each span replaced by its bytes, folded up, or reassembled for texts. Assumes nothing.
+-- The meaning of a table: its rows without row 99's offset, each span replaced by its bytes, folded up, or reassembled for texts.
 use Prim.Native.Nat.{ℕ}
 use Prim.Native.Char.{code as byte}
 use mathlib.Core.Bool.{Bool, true, false, cond, not, _&&_, _||_}

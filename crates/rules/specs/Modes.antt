@@ -1,4 +1,4 @@
--- The modes of reading: what differs between the labels of this paper, those with commas between rows, PVL's and version 1's. Assumes nothing.
+-- The modes of reading: what differs between the labels of this paper, those with commas between rows, PVL's and version 1's.
 use mathlib.Core.Bool.{Bool, true, false}
 
 -- what differs between the modes

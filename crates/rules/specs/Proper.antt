@@ -1,4 +1,4 @@
--- Proper tables: what the span of a row may hold, which tables are proper over given label bytes, and where a table stops being so. Assumes nothing.
+-- Proper tables: what the span of a row may hold, which tables are proper over given label bytes, and where a table stops being so.
 use Prim.Native.Nat.{ℕ, _-_, _≤_}
 use Prim.Native.Char.{code as byte}
 use mathlib.Core.Path.{_≡_}

@@ -1,4 +1,4 @@
--- What comes back from a reading: the table, or the first fault. Assumes nothing.
+-- What comes back from a reading: the table, or the first fault.
 use Prim.Native.Nat.{ℕ, _+_, _≤_, _<_}
 use mathlib.Core.List.{List, [], _∷_, _++_}
 use lib.ListN.{length, drop}

@@ -1,4 +1,4 @@
--- The table: the bytes of each row. Assumes nothing.
+-- The table: the bytes of each row.
 use Prim.Native.Nat.{ℕ, suc, _-_, _^_, _/_, _%_}
 use mathlib.Core.Bool.{cond}
 use mathlib.Core.List.{List, [], _∷_, _++_}

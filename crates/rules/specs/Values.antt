@@ -1,4 +1,4 @@
--- What a word stands for, as it is written, and the limits: the value, or none where it is past one. Assumes nothing.
+-- What a word stands for, as it is written, and the limits: the value, or none where it is past one.
 use Prim.Native.Nat.{ℕ, _+_, _-_, _*_, _^_, _%_}
 use mathlib.Core.Bool.{Bool, true, false, cond, not, _&&_, _||_}
 use mathlib.Core.Option.{Option, none, some}

@@ -1,4 +1,4 @@
--- The forms of a word (12.3.1, 12.3.2, 12.3.4): each type below is a rule of the source's grammar, which stands above it. Assumes nothing.
+-- The forms of a word (12.3.1, 12.3.2, 12.3.4): each type below is a rule of the source's grammar, which stands above it.
 use Prim.Native.Nat.{ℕ}
 use Prim.Native.Char.{code as byte}
 use mathlib.Core.Bool.{Bool, true, false}

@@ -1,4 +1,4 @@
--- The written label, as a function of a meaning alone: what each row writes after the row before it. Assumes nothing.
+-- The written label, as a function of a meaning alone: what each row writes after the row before it.
 use Prim.Native.Nat.{ℕ, zero, suc, _+_, _/_, _%_, _^_}
 use Prim.Native.Char.{code as byte}
 use mathlib.Core.Bool.{Bool, true, false, cond, not, _&&_}

@@ -1,13 +1,13 @@
--- The calendar: its tables, checked month by month, and the day of a year. Assumes nothing.
+-- The calendar: its tables, checked month by month, and the day of a year.
 use Prim.Native.Nat.{ℕ, zero, suc, _+_, _-_, _*_, _/_, _≤_, _<_, min}
 use mathlib.Core.Bool.{Bool, true, false, _&&_}
 use mathlib.Core.Option.{none, some}
 use mathlib.Core.Path.{_≡_, refl, sym, ap, _∙_}
 use mathlib.Core.List.{List, [], _∷_, _++_}
 use native.Mathlib.Omega.{arith}
-use borrow.Author.Tests.{eqb-true, eqb-false, leb-true, le-leb, lt-leb}
+use borrow.Author.Tests.{eqb-true, eqb-false, ne-eqb, leb-true, le-leb, lt-leb}
 use lib.Dec.{eqb, leb}
-use lib.ListN.{getD, take, drop}
+use lib.ListN.{getD, take, drop, List·getD-eq-default}
 use lib.Seq.{split-at}
 use Rattle.rules.specs.Values.{number, leap, monthLength, nthDay, dayOf}
 use Rattle.rules.proofs.Words.Runs.{both}
@@ -62,6 +62,9 @@ leap-length y m t l e h = rw (sym e ∙ h) (fits leapLengths (lengthIn true) ref
 
 pub plain-length : (y m : ℕ) (t : Bool) → m ≤ 12 → t ≡ leap y → t ≡ false → getD lengths m 0 ≡ monthLength y m
 plain-length y m t l e h = rw (sym e ∙ h) (fits lengths (lengthIn false) refl m l)
+
+pub no-length : (y m : ℕ) → 12 < m → 0 ≡ monthLength y m
+no-length y m h = rw (ne-eqb m 2 (λ e. omega arith)) (sym (List·getD-eq-default lengths 0 {n = m} h))
 
 pub leap-long : (m : ℕ) → m ≤ 12 → getD leapLengths m 0 ≤ 31
 leap-long m l = omega (arith, fits leapLengths (lengthIn true) refl m l, long true m l)

@@ -1,4 +1,4 @@
--- Times: the nanoseconds of decimals, the limits of each part, and the zone. Assumes nothing.
+-- Times: the nanoseconds of decimals, the limits of each part, and the zone.
 use Prim.Native.Nat.{ℕ, suc, _+_, _-_, _*_, _^_, _≤_, _<_, min}
 use mathlib.Core.Bool.{Bool, true, false, cond, not, _&&_}
 use mathlib.Core.Path.{_≡_, refl, sym, ap, _∙_}

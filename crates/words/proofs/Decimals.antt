@@ -1,4 +1,4 @@
--- Reals: the loop that passes trailing zeros, the limits, and the power with an exponent that is held to a cap. Assumes nothing.
+-- Reals: the loop that passes trailing zeros, the limits, and the power with an exponent that is held to a cap.
 use Prim.Native.Nat.{ℕ, suc, _+_, _-_, _*_, _^_, _≤_, _<_, min}
 use mathlib.Core.Bool.{Bool, true, false, cond, not, _&&_}
 use mathlib.Core.Option.{none, some}

@@ -1,4 +1,4 @@
--- Digits: the bytes of a span, the loops that add digits up, and integers, decimal and based. Assumes nothing.
+-- Digits: the bytes of a span, the loops that add digits up, and integers, decimal and based.
 use Prim.Native.Nat.{ℕ, _+_, _-_, _*_, _/_, _^_, _≤_, _<_, min}
 use mathlib.Core.Bool.{Bool, true, false, cond, not, _&&_}
 use mathlib.Core.Path.{_≡_, refl, sym, ap, _∙_}

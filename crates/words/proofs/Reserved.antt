@@ -1,4 +1,4 @@
--- Identifiers: each reserved word, as the code tests for it, and names. Assumes nothing.
+-- Identifiers: each reserved word, as the code tests for it, and names.
 use Prim.Native.Nat.{ℕ, suc, _≤_, _<_}
 use mathlib.Core.Bool.{Bool, true, false}
 use mathlib.Core.Path.{_≡_, refl, sym, ap, _∙_}

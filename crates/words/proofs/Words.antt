@@ -1,4 +1,4 @@
--- A word: the value of each of its forms. Assumes nothing.
+-- A word: the value of each of its forms.
 use Prim.Native.Nat.{ℕ, _^_, _≤_}
 use mathlib.Core.Bool.{Bool}
 use mathlib.Core.Option.{Option, none, some}

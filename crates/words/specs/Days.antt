@@ -1,4 +1,4 @@
--- Terms of the contracts of days: the days before a month, and the day that the code has found. Assumes nothing.
+-- Terms of the contracts of days: the days before a month, and the day that the code has found.
 use Prim.Native.Nat.{ℕ, _+_, _-_, _*_, _≤_, min}
 use mathlib.Core.Bool.{Bool, cond, _&&_}
 use mathlib.Core.Option.{Option, none, some}

@@ -1,4 +1,4 @@
--- Terms of the contracts of private functions: what a part of a word comes to. Assumes nothing.
+-- Terms of the contracts of private functions: what a part of a word comes to.
 use Prim.Native.Nat.{ℕ, _+_, _-_, _^_, _≤_, min}
 use mathlib.Core.Bool.{Bool, cond}
 use mathlib.Core.Path.{_≡_}

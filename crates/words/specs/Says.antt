@@ -1,4 +1,4 @@
--- What the readers of words say, against the rules' own pattern for words. Assumes nothing.
+-- What the readers of words say, against the rules' own pattern for words.
 use Prim.Native.Nat.{ℕ}
 use mathlib.Core.Bool.{Bool, false}
 use mathlib.Core.Path.{_≡_}

@@ -1,4 +1,4 @@
--- Terms of the contracts of times: the nanoseconds, and a moment with its zone or with its whole time. Assumes nothing.
+-- Terms of the contracts of times: the nanoseconds, and a moment with its zone or with its whole time.
 use Prim.Native.Nat.{ℕ, _+_, _-_, _*_, _^_, _≤_}
 use mathlib.Core.Bool.{Bool, cond, _&&_}
 use mathlib.Core.Option.{Option, none, some}

@@ -36,11 +36,13 @@ fn is_leap(year: u64) -> bool
     (year % 4 == 0) & (year % 100 != 0) | (year % 400 == 0)
 }
 
-// The days of a month.
-fn month_length(year: u64, month: u64) -> u64
-    requires { ⌜ month ≤ 12 ⌝ }
+// The days of a month; 0 where there is no such month.
+pub fn month_length(year: u64, month: u64) -> u64
     ensures { λ r. ⌜ (r ≡ monthLength year month) × (r ≤ 31) ⌝ }
 {
+    if 12 < month {
+        return 0;
+    }
     if is_leap(year) {
         return LEAP_LENGTHS[month as usize];
     }

@@ -5,6 +5,7 @@ mod reals; // reals.rt: reals
 mod days; // days.rt: days of the calendar
 mod times; // times.rt: times, with a day or without
 
+pub use days::month_length;
 use forms::Form;
 use forms::shape;
 use names::name;

@@ -1,4 +1,4 @@
--- Each turn of the loop is one constructor of the rule. Assumes nothing.
+-- Each turn of the loop is one constructor of the rule.
 use Prim.Native.Nat.{_-_}
 use borrow.Author.Needs.{needs}
 use lib.ListN.{length}

@@ -1,4 +1,4 @@
--- Each turn of the loop is one step of the rule. Assumes nothing.
+-- Each turn of the loop is one step of the rule.
 use Prim.Native.Nat.{_-_}
 use lib.ListN.{length}
 use Rattle.forms.proofs.Identifiers.{Going}

@@ -1,4 +1,4 @@
--- The form of a word, by its first byte. Assumes nothing.
+-- The form of a word, by its first byte.
 use borrow.Author.Needs.{needs}
 use Rattle.forms.proofs.shape.Statement.{statement}
 use Rattle.forms.proofs.shape.Tie as tie

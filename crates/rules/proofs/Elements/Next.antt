@@ -1,4 +1,4 @@
--- The next element, as a function. Assumes nothing.
+-- The next element, as a function.
 use Prim.Native.Nat.{ℕ, zero, suc, _+_, _≤_, _<_}
 use native.Mathlib.Omega.{arith}
 use mathlib.Core.Path.{_≡_, refl, sym, ap, subst, _∙_}

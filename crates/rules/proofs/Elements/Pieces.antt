@@ -1,4 +1,4 @@
--- The piece at the front of the bytes: a blank, a comment, an element, a fault, or the end. Assumes nothing.
+-- The piece at the front of the bytes: a blank, a comment, an element, a fault, or the end.
 use Prim.Native.Nat.{ℕ, suc, _+_, _≤_, _<_}
 use native.Mathlib.Omega.{arith}
 use Prim.Native.Char.{code}

@@ -1,4 +1,4 @@
--- The machine on small lists of elements: the checked examples that statements decide, by computation. Assumes nothing.
+-- The machine on small lists of elements: the checked examples that statements decide, by computation.
 use Prim.Native.Nat.{ℕ, zero, suc, _≤_, _<_}
 use native.Mathlib.Decide.{decLe, decLt, ℕ-discrete}
 use mathlib.Core.Path.{_≡_, refl, sym, ap, ap₂, _∙_, subst, subst₂}

@@ -1,4 +1,4 @@
--- The machine takes every label, and gives its rows. Assumes nothing.
+-- The machine takes every label, and gives its rows.
 use Prim.Native.Nat.{ℕ, zero, suc, _≤_, _<_}
 use native.Mathlib.Decide.{decLe, decLt}
 use mathlib.Core.Path.{_≡_, refl, sym, ap, ap₂, _∙_, subst, subst₂}

@@ -1,4 +1,4 @@
--- What holds of every answer of an offer, element by element: one lemma for each kind of offer. Assumes nothing.
+-- What holds of every answer of an offer, element by element: one lemma for each kind of offer.
 use Prim.Native.Nat.{ℕ, zero, suc, _≤_, _<_}
 use native.Mathlib.Decide.{decLe, decLt}
 use mathlib.Core.Path.{_≡_, refl, sym, ap, ap₂, _∙_, subst, subst₂}

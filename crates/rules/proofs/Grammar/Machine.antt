@@ -1,4 +1,4 @@
--- The machine: a state, the offers that a state makes, and the step over one element. Assumes nothing.
+-- The machine: a state, the offers that a state makes, and the step over one element.
 use Prim.Native.Nat.{ℕ, zero, suc, _≤_, _<_}
 use native.Mathlib.Decide.{decLe, decLt, ℕ-discrete}
 use native.Mathlib.Omega.{arith}

@@ -1,4 +1,4 @@
--- What may still come in a state, in the grammar's own terms. Assumes nothing.
+-- What may still come in a state, in the grammar's own terms.
 use Prim.Native.Nat.{ℕ, zero, suc, _≤_, _<_}
 use native.Mathlib.Decide.{decLe, decLt}
 use mathlib.Core.Path.{_≡_, refl, sym, ap, ap₂, _∙_, subst, subst₂}

@@ -1,4 +1,4 @@
--- Runs of the machine over lists of elements: as a relation, and as a function. Assumes nothing.
+-- Runs of the machine over lists of elements: as a relation, and as a function.
 use Prim.Native.Nat.{ℕ, zero, suc, _≤_, _<_}
 use native.Mathlib.Decide.{decLe, decLt}
 use mathlib.Core.Path.{_≡_, refl, sym, ap, ap₂, _∙_, subst, subst₂}

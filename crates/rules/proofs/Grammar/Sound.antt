@@ -1,4 +1,4 @@
--- Each step is sound: what may come after it, with the element before it, may come before it. Assumes nothing.
+-- Each step is sound: what may come after it, with the element before it, may come before it.
 use Prim.Native.Nat.{ℕ, zero, suc, _≤_, _<_}
 use native.Mathlib.Decide.{decLe, decLt}
 use mathlib.Core.Path.{_≡_, refl, sym, ap, ap₂, _∙_, subst, subst₂}

@@ -1,5 +1,5 @@
 -- The machine and the rules agree: labels are what it accepts, what it has not refused can be completed, what it refuses cannot,
--- with the code that the rules give. Assumes nothing.
+-- with the code that the rules give.
 use Prim.Native.Nat.{ℕ, zero, suc, _≤_, _<_}
 use native.Mathlib.Decide.{decLe, decLt}
 use mathlib.Core.Path.{_≡_, refl, sym, ap, ap₂, _∙_, subst, subst₂}

@@ -1,4 +1,4 @@
--- A mode that allows more takes every label that another takes, with the same rows. Assumes nothing.
+-- A mode that allows more takes every label that another takes, with the same rows.
 use Prim.Native.Nat.{ℕ, zero, suc, _≤_, _<_}
 use native.Mathlib.Decide.{decLe, decLt}
 use mathlib.Core.Path.{_≡_, refl, sym, ap, ap₂, _∙_, subst, subst₂}

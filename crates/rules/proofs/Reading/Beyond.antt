@@ -1,4 +1,4 @@
--- Bytes beyond the one after the final END change nothing. Assumes nothing.
+-- Bytes beyond the one after the final END change nothing.
 use Prim.Native.Nat.{ℕ, zero, suc, _+_, _-_, _≤_, _<_}
 use native.Mathlib.Omega.{arith}
 use native.Mathlib.Nat.{zero-add}

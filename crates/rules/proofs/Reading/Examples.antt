@@ -1,4 +1,4 @@
--- The checked examples marked P hold of the rules, by computation of the reading. Assumes nothing.
+-- The checked examples marked P hold of the rules, by computation of the reading.
 use mathlib.Core.Path.{_≡_, refl, subst}
 use mathlib.Core.List.{List, [], _∷_}
 use native.Mathlib.Decide.{decLe, decLt, ℕ-discrete}

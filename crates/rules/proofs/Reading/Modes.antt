@@ -1,5 +1,5 @@
 -- A label that a mode accepts, a mode that allows more accepts too, with the same table, if no bare BEGIN_GROUP stands in it
--- where only the other reserves that. Assumes nothing.
+-- where only the other reserves that.
 use Prim.Native.Nat.{ℕ, zero, suc, _+_, _≤_, _<_}
 use native.Mathlib.Omega.{arith}
 use mathlib.Core.Bool.{Bool, true, false, cond, not, _&&_, _||_, false≢true, true≢false}

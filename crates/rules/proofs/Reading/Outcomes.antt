@@ -1,4 +1,4 @@
--- For every list of bytes exactly one outcome; a label follows the rules in exactly one way; and every outcome can be given in the numbers of the paper. Assumes nothing.
+-- For every list of bytes exactly one outcome; a label follows the rules in exactly one way; and every outcome can be given in the numbers of the paper.
 use Prim.Native.Nat.{ℕ, _+_, _≤_, _<_}
 use native.Mathlib.Omega.{arith}
 use native.Mathlib.Nat.{zero-add}

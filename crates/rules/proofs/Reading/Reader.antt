@@ -1,4 +1,4 @@
--- The reading of a label, as a function: the next element, and the machine's step over it, until END or a fault. Assumes nothing.
+-- The reading of a label, as a function: the next element, and the machine's step over it, until END or a fault.
 use Prim.Native.Nat.{ℕ, zero, suc, _+_, _-_, _≤_, _<_}
 use native.Mathlib.Omega.{arith}
 use native.Mathlib.Nat.{zero-add}

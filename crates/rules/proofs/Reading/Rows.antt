@@ -1,4 +1,4 @@
--- What holds of every element of a label holds of the rows that it gives. Assumes nothing.
+-- What holds of every element of a label holds of the rows that it gives.
 use Prim.Native.Nat.{ℕ, zero, suc, _≤_, _<_}
 use mathlib.Core.Path.{_≡_, refl, sym, ap, subst, _∙_}
 use mathlib.Core.Logic.{_⊎_, inl, inr}

@@ -1,4 +1,4 @@
--- Every element's span lies inside the label, and its bytes are what the element is. Assumes nothing.
+-- Every element's span lies inside the label, and its bytes are what the element is.
 use Prim.Native.Nat.{ℕ, _+_, _-_, _≤_}
 use native.Mathlib.Omega.{arith}
 use mathlib.Core.Bool.{Bool, true, not, _&&_}

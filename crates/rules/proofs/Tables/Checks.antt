@@ -1,4 +1,4 @@
--- The value and the span of a row as tests, each true exactly where the rules hold. Assumes nothing.
+-- The value and the span of a row as tests, each true exactly where the rules hold.
 use Prim.Native.Nat.{ℕ, _≤_, _<_, _%_, _^_}
 use mathlib.Core.Bool.{Bool, true, false, not, _&&_, _||_, false≢true}
 use mathlib.Core.Logic.{_↔_, _⊎_, inl, inr}

@@ -1,4 +1,4 @@
--- What a span may hold, as tests: each is true exactly of the bytes that the rules allow. Assumes nothing.
+-- What a span may hold, as tests: each is true exactly of the bytes that the rules allow.
 use Prim.Native.Nat.{ℕ, _≤_}
 use Prim.Native.Char.{code as byte}
 use mathlib.Core.Bool.{Bool, true, false, cond, not, _&&_, false≢true}

@@ -1,4 +1,4 @@
--- The elements that bytes can give have values in order. Assumes nothing.
+-- The elements that bytes can give have values in order.
 use Prim.Native.Nat.{ℕ, suc, _+_, _-_, _*_, _%_, _^_, _≤_, _<_}
 use mathlib.Core.Path.{_≡_, refl, sym, ap, _∙_, subst}
 use mathlib.Core.Logic.{_⊎_, inl, inr}

@@ -1,4 +1,4 @@
--- A reader of one row, which undoes `encode`: bytes are a row in one way only. Assumes nothing.
+-- A reader of one row, which undoes `encode`: bytes are a row in one way only.
 use Prim.Native.Nat.{ℕ, zero, suc, _+_, _-_, _*_, _/_, _%_, _^_, _≤_, _<_}
 use mathlib.Core.Path.{_≡_, refl, sym, ap, ap₂, _∙_}
 use mathlib.Core.Bool.{Bool, true, false, cond, true≢false}

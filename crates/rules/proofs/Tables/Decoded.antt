@@ -1,4 +1,4 @@
--- A row that is read is what the bytes begin with. Assumes nothing.
+-- A row that is read is what the bytes begin with.
 use Prim.Native.Nat.{ℕ, zero, suc, _+_, _-_, _*_, _^_, _<_}
 use mathlib.Core.Path.{_≡_, refl, sym, ap, ap₂, _∙_, subst}
 use mathlib.Core.Bool.{Bool, true, false, cond}

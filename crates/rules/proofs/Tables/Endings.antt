@@ -1,4 +1,4 @@
--- Whatever rows the machine has taken, rows without a span can end the table. Assumes nothing.
+-- Whatever rows the machine has taken, rows without a span can end the table.
 use Prim.Native.Nat.{ℕ, _^_}
 use native.Mathlib.Decide.{decLt}
 use mathlib.Core.Path.{_≡_, refl, subst}

@@ -1,4 +1,4 @@
--- Every table is proper or improper, and at one place: a function over a table's bytes gives the verdict, equal to the rules both ways. Assumes nothing.
+-- Every table is proper or improper, and at one place: a function over a table's bytes gives the verdict, equal to the rules both ways.
 use Prim.Native.Nat.{ℕ, zero, suc, _+_, _≤_, _<_}
 use mathlib.Core.Bool.{Bool, true, false, cond, _&&_, false≢true, true≢false}
 use mathlib.Core.Path.{_≡_, refl, sym, ap, subst, _∙_}

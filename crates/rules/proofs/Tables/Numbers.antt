@@ -1,4 +1,4 @@
--- Numbers written in places, and read back: the bytes of a table and the digits of a date. Assumes nothing.
+-- Numbers written in places, and read back: the bytes of a table and the digits of a date.
 use Prim.Native.Nat.{ℕ, zero, suc, _+_, _*_, _/_, _%_, _^_, _<_}
 use mathlib.Core.Path.{_≡_, refl, sym, ap, ap₂, _∙_, subst}
 use mathlib.Core.List.{List, [], _∷_, map}

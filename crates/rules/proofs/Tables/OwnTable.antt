@@ -1,4 +1,4 @@
--- The table that a reading gives, in any mode, is proper over the label that was read. Assumes nothing.
+-- The table that a reading gives, in any mode, is proper over the label that was read.
 use Prim.Native.Nat.{ℕ}
 use mathlib.Core.Path.{refl}
 use mathlib.Core.List.{List}

@@ -1,4 +1,4 @@
--- Proper tables are what the row machine accepts, with values and spans in order; what begins one is what it has not refused. Assumes nothing.
+-- Proper tables are what the row machine accepts, with values and spans in order; what begins one is what it has not refused.
 use Prim.Native.Nat.{ℕ, _+_}
 use mathlib.Core.Path.{_≡_, sym, _∙_}
 use mathlib.Core.Logic.{_↔_}

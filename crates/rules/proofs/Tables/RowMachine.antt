@@ -1,4 +1,4 @@
--- A machine over the rows of a table: which sorts of rows may come in a state. Assumes nothing.
+-- A machine over the rows of a table: which sorts of rows may come in a state.
 use Prim.Native.Nat.{ℕ}
 use native.Mathlib.Decide.{decLt}
 use mathlib.Core.Path.{_≡_, refl, ap, _∙_}

@@ -1,4 +1,4 @@
--- The rows of every label come in an order that the row machine accepts. Assumes nothing.
+-- The rows of every label come in an order that the row machine accepts.
 use Prim.Native.Nat.{ℕ, suc, _<_}
 use native.Mathlib.Decide.{decLt}
 use mathlib.Core.Path.{_≡_, refl, sym, ap, _∙_, subst}

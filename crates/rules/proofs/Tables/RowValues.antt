@@ -1,4 +1,4 @@
--- The rows of a label have values in order, if its elements have. Assumes nothing.
+-- The rows of a label have values in order, if its elements have.
 use Prim.Native.Nat.{ℕ}
 use mathlib.Core.Path.{refl}
 use mathlib.Core.Bool.{false}

@@ -1,4 +1,4 @@
--- The rows from an offset on and the lookup over them, as functions; and that the rows of a proper table have an answer to every lookup. Assumes nothing.
+-- The rows from an offset on and the lookup over them, as functions; and that the rows of a proper table have an answer to every lookup.
 use Prim.Native.Nat.{ℕ, zero, suc, _+_, _-_, _<_}
 use native.Mathlib.Decide.{decLt}
 use mathlib.Core.Path.{_≡_, refl, sym, ap, subst, _∙_}

@@ -1,4 +1,4 @@
--- Tests that are true or false: taken apart and put together; and what holds of the bytes of a list. Assumes nothing.
+-- Tests that are true or false: taken apart and put together; and what holds of the bytes of a list.
 use Prim.Native.Nat.{ℕ, _≤_, _<_}
 use mathlib.Core.Path.{_≡_, refl}
 use mathlib.Core.Bool.{Bool, true, false, cond, not, _&&_, _||_, false≢true, true≢false}

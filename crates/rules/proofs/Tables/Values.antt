@@ -1,4 +1,4 @@
--- The values that elements and rows can have. Assumes nothing.
+-- The values that elements and rows can have.
 use Prim.Native.Nat.{ℕ, _≤_, _<_, _%_, _^_}
 use mathlib.Core.Path.{_≡_}
 use mathlib.Core.Bool.{false}

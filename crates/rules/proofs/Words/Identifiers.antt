@@ -1,4 +1,4 @@
--- Identifiers as a test. Assumes nothing.
+-- Identifiers as a test.
 use Prim.Native.Nat.{ℕ}
 use mathlib.Core.Bool.{Bool, true, false, false≢true}
 use mathlib.Core.Path.{_≡_, refl}

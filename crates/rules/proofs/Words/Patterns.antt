@@ -1,4 +1,4 @@
--- Patterns for words: runs, fixed bytes and forks on what is left, with one matcher, proved once. Assumes nothing.
+-- Patterns for words: runs, fixed bytes and forks on what is left, with one matcher, proved once.
 use Prim.Native.Nat.{ℕ}
 use native.Mathlib.Omega.{arith}
 use mathlib.Core.Bool.{Bool, true, false, cond, false≢true}

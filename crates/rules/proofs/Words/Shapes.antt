@@ -1,4 +1,4 @@
--- The forms of a word, as a function: one pattern for all of them, and each rule of the source against its part of it. Assumes nothing.
+-- The forms of a word, as a function: one pattern for all of them, and each rule of the source against its part of it.
 use Prim.Native.Nat.{ℕ, suc, _≤_, _<_}
 use native.Mathlib.Omega.{arith}
 use mathlib.Core.Bool.{Bool, true, false, cond, not, _&&_, _||_, false≢true, true≢false}

@@ -1,4 +1,4 @@
--- What the values of `specs/Values` come to: the digits of a real times a power of ten, and the days of a year. Assumes nothing.
+-- What the values of `specs/Values` come to: the digits of a real times a power of ten, and the days of a year.
 use Prim.Native.Nat.{ℕ, zero, suc, _+_, _-_, _*_, _^_, _%_, _≤_, _<_}
 use native.Mathlib.Omega.{arith}
 use native.Mathlib.Nat.{pow-zero, pow-succ', mul-assoc, mul-one, add-zero}

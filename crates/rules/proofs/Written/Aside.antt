@@ -1,4 +1,4 @@
--- Rows that are alike but for their spans come in the same order and have the same values; a table, its meaning and the rows written are alike. Assumes nothing.
+-- Rows that are alike but for their spans come in the same order and have the same values; a table, its meaning and the rows written are alike.
 use Prim.Native.Nat.{ℕ}
 use mathlib.Core.Path.{_≡_, refl, sym, ap, ap₂, _∙_, subst, transport}
 use mathlib.Core.List.{List, [], _∷_, map}

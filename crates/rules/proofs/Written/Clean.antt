@@ -1,4 +1,4 @@
--- The words of a meaning are in order: names and symbols in upper case, texts reassembled. Assumes nothing.
+-- The words of a meaning are in order: names and symbols in upper case, texts reassembled.
 use Prim.Native.Nat.{ℕ}
 use mathlib.Core.Path.{_≡_, _∙_}
 use mathlib.Core.Bool.{true}

@@ -1,4 +1,4 @@
--- Examples of the written label and of reassembly, computed. Assumes nothing.
+-- Examples of the written label and of reassembly, computed.
 use Prim.Native.Nat.{ℕ}
 use Prim.Native.String.{String}
 use mathlib.Core.Path.{_≡_, refl}

@@ -1,4 +1,4 @@
--- Upper case: twice is once, and it changes no test that names and symbols are judged by. Assumes nothing.
+-- Upper case: twice is once, and it changes no test that names and symbols are judged by.
 use Prim.Native.Nat.{ℕ, _-_, _≤_}
 use mathlib.Core.Path.{_≡_, refl, sym, ap₂, _∙_}
 use mathlib.Core.Bool.{Bool, true, false, cond, not, _&&_}

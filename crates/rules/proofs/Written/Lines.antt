@@ -1,4 +1,4 @@
--- The written label grows row by row, and so does its length. Assumes nothing.
+-- The written label grows row by row, and so does its length.
 use Prim.Native.Nat.{ℕ, _+_}
 use mathlib.Core.Path.{_≡_, refl, sym, ap, _∙_}
 use mathlib.Core.List.{List, [], _∷_, _++_, append-assoc, append-nil}

@@ -1,4 +1,4 @@
--- Names and reserved words as the writer prints them are words as the reader reads them. Assumes nothing.
+-- Names and reserved words as the writer prints them are words as the reader reads them.
 use Prim.Native.Nat.{ℕ, _-_}
 use mathlib.Core.Path.{refl, subst}
 use mathlib.Core.Bool.{Bool, true}

@@ -1,4 +1,4 @@
--- The written label as pieces: each an element, with the spaces and line ends before it; and that their bytes are the bytes written. Assumes nothing.
+-- The written label as pieces: each an element, with the spaces and line ends before it; and that their bytes are the bytes written.
 use Prim.Native.Nat.{ℕ}
 use Prim.Native.Char.{code as byte}
 use mathlib.Core.Bool.{Bool, true, false, cond}

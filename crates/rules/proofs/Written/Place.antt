@@ -1,4 +1,4 @@
--- Where the elements of the written label stand, and the rows that they give. Assumes nothing.
+-- Where the elements of the written label stand, and the rows that they give.
 use Prim.Native.Nat.{ℕ, _+_}
 use mathlib.Core.Path.{_≡_, refl, ap}
 use mathlib.Core.Bool.{Bool, true, false, cond}

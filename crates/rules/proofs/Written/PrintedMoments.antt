@@ -1,4 +1,4 @@
--- Dates and times as they are written are words as they are read. Assumes nothing.
+-- Dates and times as they are written are words as they are read.
 use Prim.Native.Nat.{ℕ, zero, suc, _+_, _-_, _*_, _/_, _%_, _^_, _≤_, _<_}
 use mathlib.Core.Path.{_≡_, refl, sym, ap, ap₂, _∙_, subst, subst₂, subst₃}
 use mathlib.Core.Option.{Option, some}

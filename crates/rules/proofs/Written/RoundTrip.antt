@@ -1,4 +1,4 @@
--- What is written is read back: the canonical label of a proper table follows the rules, and its table has the same meaning. Assumes nothing.
+-- What is written is read back: the canonical label of a proper table follows the rules, and its table has the same meaning.
 use Prim.Native.Nat.{ℕ, _≤_}
 use mathlib.Core.Path.{_≡_, sym, ap, subst, _∙_}
 use mathlib.Core.List.{List, []}

@@ -1,4 +1,4 @@
--- The spans of the written label's rows hold the bytes that were written: the table that is read back has the same meaning. Assumes nothing.
+-- The spans of the written label's rows hold the bytes that were written: the table that is read back has the same meaning.
 use Prim.Native.Nat.{ℕ, _+_, _-_}
 use mathlib.Core.Path.{_≡_, refl, sym, ap, ap₂, _∙_, subst}
 use mathlib.Core.Bool.{Bool, true, false}

@@ -1,4 +1,4 @@
--- The bytes of the written label cut into exactly its elements. Assumes nothing.
+-- The bytes of the written label cut into exactly its elements.
 use Prim.Native.Nat.{ℕ, zero, suc, _+_, _-_}
 use mathlib.Core.Logic.{_⊎_, inl, inr}
 use mathlib.Core.Path.{_≡_, refl, sym, ap, _∙_, subst, subst₂}

@@ -1,4 +1,4 @@
--- Reassembly: it keeps what a text may hold, and does nothing to its own results. Assumes nothing.
+-- Reassembly: it keeps what a text may hold, and does nothing to its own results.
 use Prim.Native.Nat.{ℕ}
 use mathlib.Core.Path.{_≡_, refl}
 use mathlib.Core.Bool.{Bool, true, false, not, _&&_}

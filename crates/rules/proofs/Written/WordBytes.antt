@@ -1,4 +1,4 @@
--- Numbers, dates and times are written in word bytes. Assumes nothing.
+-- Numbers, dates and times are written in word bytes.
 use Prim.Native.Nat.{ℕ, suc, _+_, _-_, _/_, _%_, _^_, _<_}
 use mathlib.Core.Path.{_≡_, refl}
 use mathlib.Core.Bool.{Bool, true, false, cond, false≢true}

@@ -1,12 +1,8 @@
-use Prim.Native.Nat.{_+_, _-_, _≤_}
-use mathlib.Core.Path.{_≡_}
+use Prim.Native.Nat.{_-_, _≤_}
 use lib.ListN.{length}
 use borrow.Author.Needs.{needs}
 use Rattle.examples.proofs.print.print_bytes.Statement.{statement}
 use Rattle.examples.proofs.print.print_bytes.Tie as tie
-use Rattle.examples.proofs.print.print_bytes.Reads as reads
-use Rattle.examples.proofs.print.print_bytes.Lts as lts
-use Rattle.examples.proofs.print.print_one.Reads as print-one-reads
 
 abbrev Inv-loop : tie.InvT-loop
 Inv-loop s i₀ i = i ≤ length s

@@ -1,13 +1,7 @@
-use Prim.Native.Nat.{_+_, _-_, _≤_}
-use mathlib.Core.Path.{_≡_}
-use lib.ListN.{length}
+use Prim.Native.Nat.{_-_, _≤_}
 use borrow.Author.Needs.{needs}
 use Rattle.examples.proofs.print.print_padded.Statement.{statement}
 use Rattle.examples.proofs.print.print_padded.Tie as tie
-use Rattle.examples.proofs.print.print_padded.Reads as reads
-use Rattle.examples.proofs.print.print_padded.Lts as lts
-use Rattle.io.proofs.print_decimal.Reads as print-decimal-reads
-use Rattle.io.proofs.write_all.Reads as write-all-reads
 
 abbrev Inv-loop : tie.InvT-loop
 Inv-loop n bound least₀ t4 least = 0 ≤ least

@@ -1,4 +1,4 @@
--- The sign of a based integer, answer by answer. Assumes nothing.
+-- The sign of a based integer, answer by answer.
 use borrow.Author.Needs.{needs}
 use Rattle.forms.proofs.numbers.based.Statement.{statement}
 use Rattle.forms.proofs.numbers.based.Tie as tie

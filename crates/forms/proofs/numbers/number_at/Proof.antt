@@ -1,4 +1,4 @@
--- A number, answer by answer. Assumes nothing.
+-- A number, answer by answer.
 use borrow.Author.Needs.{needs}
 use Rattle.forms.proofs.numbers.number_at.Statement.{statement}
 use Rattle.forms.proofs.numbers.number_at.Tie as tie

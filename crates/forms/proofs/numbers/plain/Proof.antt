@@ -1,4 +1,4 @@
--- What only digits with no sign begin, answer by answer. Assumes nothing.
+-- What only digits with no sign begin, answer by answer.
 use borrow.Author.Needs.{needs}
 use Rattle.forms.proofs.numbers.plain.Statement.{statement}
 use Rattle.forms.proofs.numbers.plain.Tie as tie

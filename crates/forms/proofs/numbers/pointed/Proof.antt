@@ -1,4 +1,4 @@
--- A real behind its period, answer by answer. Assumes nothing.
+-- A real behind its period, answer by answer.
 use borrow.Author.Needs.{needs}
 use Rattle.forms.proofs.numbers.pointed.Statement.{statement}
 use Rattle.forms.proofs.numbers.pointed.Tie as tie

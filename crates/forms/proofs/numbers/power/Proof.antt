@@ -1,4 +1,4 @@
--- The sign of an exponent, answer by answer. Assumes nothing.
+-- The sign of an exponent, answer by answer.
 use borrow.Author.Needs.{needs}
 use Rattle.forms.proofs.numbers.power.Statement.{statement}
 use Rattle.forms.proofs.numbers.power.Tie as tie

@@ -1,4 +1,4 @@
--- The digits of an exponent, answer by answer. Assumes nothing.
+-- The digits of an exponent, answer by answer.
 use borrow.Author.Needs.{needs}
 use Rattle.forms.proofs.numbers.power_digits.Statement.{statement}
 use Rattle.forms.proofs.numbers.power_digits.Tie as tie

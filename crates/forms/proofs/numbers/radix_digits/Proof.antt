@@ -1,4 +1,4 @@
--- The digits of a based integer, answer by answer. Assumes nothing.
+-- The digits of a based integer, answer by answer.
 use borrow.Author.Needs.{needs}
 use Rattle.forms.proofs.numbers.radix_digits.Statement.{statement}
 use Rattle.forms.proofs.numbers.radix_digits.Tie as tie

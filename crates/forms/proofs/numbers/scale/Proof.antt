@@ -1,4 +1,4 @@
--- A real from the end of its decimals on, answer by answer. Assumes nothing.
+-- A real from the end of its decimals on, answer by answer.
 use borrow.Author.Needs.{needs}
 use Rattle.forms.proofs.numbers.scale.Statement.{statement}
 use Rattle.forms.proofs.numbers.scale.Tie as tie

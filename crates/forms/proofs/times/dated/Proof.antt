@@ -1,4 +1,4 @@
--- What follows a date, answer by answer. Assumes nothing.
+-- What follows a date, answer by answer.
 use borrow.Author.Needs.{needs}
 use Rattle.forms.proofs.times.dated.Statement.{statement}
 use Rattle.forms.proofs.times.dated.Tie as tie

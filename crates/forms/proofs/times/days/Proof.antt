@@ -1,4 +1,4 @@
--- A date behind its year, answer by answer. Assumes nothing.
+-- A date behind its year, answer by answer.
 use borrow.Author.Needs.{needs}
 use Rattle.forms.proofs.times.days.Statement.{statement}
 use Rattle.forms.proofs.times.days.Tie as tie

@@ -1,4 +1,4 @@
--- A time from its minutes on, answer by answer. Assumes nothing.
+-- A time from its minutes on, answer by answer.
 use borrow.Author.Needs.{needs}
 use Rattle.forms.proofs.times.minutes.Statement.{statement}
 use Rattle.forms.proofs.times.minutes.Tie as tie

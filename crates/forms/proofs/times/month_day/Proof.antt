@@ -1,4 +1,4 @@
--- A date from the day of its month on, answer by answer. Assumes nothing.
+-- A date from the day of its month on, answer by answer.
 use borrow.Author.Needs.{needs}
 use Rattle.forms.proofs.times.month_day.Statement.{statement}
 use Rattle.forms.proofs.times.month_day.Tie as tie

@@ -1,4 +1,4 @@
--- A time from the end of its minutes on, answer by answer. Assumes nothing.
+-- A time from the end of its minutes on, answer by answer.
 use borrow.Author.Needs.{needs}
 use Rattle.forms.proofs.times.seconds.Statement.{statement}
 use Rattle.forms.proofs.times.seconds.Tie as tie

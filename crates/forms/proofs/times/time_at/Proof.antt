@@ -1,4 +1,4 @@
--- A time from its hour on, answer by answer. Assumes nothing.
+-- A time from its hour on, answer by answer.
 use borrow.Author.Needs.{needs}
 use Rattle.forms.proofs.times.time_at.Statement.{statement}
 use Rattle.forms.proofs.times.time_at.Tie as tie

@@ -1,4 +1,4 @@
--- What ends a time, answer by answer. Assumes nothing.
+-- What ends a time, answer by answer.
 use borrow.Author.Needs.{needs}
 use Rattle.forms.proofs.times.zone_at.Statement.{statement}
 use Rattle.forms.proofs.times.zone_at.Tie as tie

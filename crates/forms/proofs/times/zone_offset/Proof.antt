@@ -1,4 +1,4 @@
--- An offset, answer by answer. Assumes nothing.
+-- An offset, answer by answer.
 use borrow.Author.Needs.{needs}
 use Rattle.forms.proofs.times.zone_offset.Statement.{statement}
 use Rattle.forms.proofs.times.zone_offset.Tie as tie

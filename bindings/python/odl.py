@@ -1,0 +1,325 @@
+"""Reads and writes ODL 2.1 camera labels, by way of the proved library.
+
+    import odl
+    for statement in odl.read(open("camera.lbl", "rb").read()):
+        print(statement)
+
+`read` gives the label's statements in order: `Attribute`, `Pointer` and
+`Block`, each with its name folded up. Values are
+
+    integer                 int
+    real                    decimal.Decimal, exact
+    number with units       Quantity
+    date                    datetime.date
+    time                    datetime.time with its zone
+    date and time           datetime.datetime with its zone
+    either, with decimals
+    past the microsecond    Moment
+    text                    str, its lines joined
+    symbol                  Symbol, a str, folded up
+    sequence                list, of lists where it has rows
+    set                     Set, a tuple in the written order
+
+`relabel` gives the canonical label. Both raise `OdlError` with code, place and
+reason for a label that is refused; nothing is guessed.
+
+The library is `target/libodl.so` at the project's root, made by the script
+`build` beside this file, or the file that ODL_LIBRARY names.
+"""
+
+import ctypes
+import datetime
+import decimal
+import os
+from dataclasses import dataclass
+from typing import Any, List, Optional, Tuple, Union
+
+__all__ = [
+    "Attribute",
+    "Block",
+    "Moment",
+    "OdlError",
+    "Pointer",
+    "Quantity",
+    "Set",
+    "Symbol",
+    "Unit",
+    "read",
+    "relabel",
+]
+
+LONGEST_LABEL = 65535
+
+REASONS = {
+    1: "the label is over 65,535 bytes",
+    2: "a byte that begins no element, or is not allowed in its text, symbol or comment",
+    3: "a text, symbol or comment that is not closed",
+    4: "a word of no form, or an empty symbol",
+    5: "a number, radix, digit, length, date or unit exponent past its limit",
+    6: "an element that cannot stand there",
+    7: "a closing name that is not the opening one",
+    8: "OBJECT or GROUP at depth 80",
+    9: "END without spacing or a line end after it",
+    10: "the input ends early",
+    11: "the room is too short",
+    12: "the table is not proper over this label",
+    13: "the written label would be over 65,535 bytes",
+    14: "no attribute of that name",
+    15: "not the offset of a row that is asked for",
+}
+
+
+class OdlError(ValueError):
+    """A label was refused: `code`, `place` in the label, and `reason`."""
+
+    def __init__(self, code: int, place: int):
+        super().__init__(code, place)
+        self.code = code
+        self.place = place
+        self.reason = REASONS[code]
+
+    def __str__(self):
+        return f"code {self.code} at {self.place}: {self.reason}"
+
+
+class Symbol(str):
+    """A symbol, folded up. A text is a plain str."""
+
+    def __repr__(self):
+        return f"Symbol({str.__repr__(self)})"
+
+
+class Set(tuple):
+    """The members of a set in their written order."""
+
+    def __repr__(self):
+        return f"Set({list(self)!r})"
+
+
+@dataclass(frozen=True)
+class Unit:
+    """One unit of a units expression; `joint` is "" for the first, else "*" or "/"."""
+
+    joint: str
+    name: str
+    exponent: int
+
+
+@dataclass(frozen=True)
+class Quantity:
+    """A number with units."""
+
+    value: Union[int, decimal.Decimal]
+    units: Tuple[Unit, ...]
+
+    def __str__(self):
+        units = "".join(
+            unit.joint + unit.name + ("" if unit.exponent == 1 else f"**{unit.exponent}")
+            for unit in self.units
+        )
+        return f"{self.value} <{units}>"
+
+
+@dataclass(frozen=True)
+class Moment:
+    """A time, perhaps with its date, that has decimals past the microsecond."""
+
+    date: Optional[datetime.date]
+    hour: int
+    minute: int
+    second: int
+    nanoseconds: int
+    zone: datetime.timezone
+
+
+@dataclass(frozen=True)
+class Attribute:
+    name: str
+    value: Any
+
+
+@dataclass(frozen=True)
+class Pointer:
+    name: str
+    value: Any
+
+
+@dataclass(frozen=True)
+class Block:
+    """An OBJECT or a GROUP (`kind` says which) and the statements in it."""
+
+    kind: str
+    name: str
+    statements: List[Union[Attribute, Pointer, "Block"]]
+
+
+def read(data: bytes) -> list:
+    """The statements of a label."""
+    data = bytes(memoryview(data))
+    table = _grown(
+        min(len(data), LONGEST_LABEL), lambda *room: _library.odl_read(data, len(data), *room)
+    )
+    return _Table(data, table).statements()
+
+
+def relabel(data: bytes) -> bytes:
+    """The canonical label; refused just as the program `relabel` refuses it,
+    which has room for a table of 65,535 bytes."""
+    data = bytes(memoryview(data))
+    table = _filled(LONGEST_LABEL, lambda *room: _library.odl_read(data, len(data), *room))
+    return _grown(
+        len(data),
+        lambda *room: _library.odl_write(data, len(data), table, len(table), *room),
+    )
+
+
+def _load():
+    here = os.path.dirname(os.path.abspath(__file__))
+    path = os.environ.get("ODL_LIBRARY", os.path.join(here, "..", "..", "target", "libodl.so"))
+    try:
+        library = ctypes.CDLL(path)
+    except OSError as error:
+        raise ImportError(
+            f"the library cannot be loaded ({error}): run the script `build` beside odl.py"
+        ) from None
+    given = [ctypes.c_char_p, ctypes.c_size_t]
+    room = [ctypes.c_void_p, ctypes.c_size_t]
+    number = ctypes.POINTER(ctypes.c_size_t)
+    for name, handed in [
+        ("odl_read", given),
+        ("odl_write", given + given),
+        ("odl_text", given + given + [ctypes.c_size_t]),
+    ]:
+        function = getattr(library, name)
+        function.argtypes = handed + room + [number, number]
+        function.restype = ctypes.c_uint8
+    return library
+
+
+_library = _load()
+
+
+def _call(size, call):
+    """Calls with room of this size: code, place, length, room."""
+    room = ctypes.create_string_buffer(size)
+    place = ctypes.c_size_t()
+    length = ctypes.c_size_t()
+    code = call(room, size, ctypes.byref(place), ctypes.byref(length))
+    return code, place.value, length.value, room
+
+
+def _filled(size, call):
+    code, place, length, room = _call(size, call)
+    if code != 0:
+        raise OdlError(code, place)
+    return room.raw[:length]
+
+
+def _grown(size, call):
+    """The same, with all the room that is needed."""
+    code, _, length, room = _call(size, call)
+    if code == 0:
+        return room.raw[:length]
+    return _filled(length, call)
+
+
+def _text(written):
+    """A text as the library reassembles it. It gets a table of its own, so
+    that a label of many texts is not judged anew for each."""
+    label = b"A" + written
+    table = b"\x01\0\0\0\x01" + b"\x0d\0\x01" + len(label).to_bytes(2, "big") + b"\x63\0\0"
+    text = _grown(
+        len(written),
+        lambda *room: _library.odl_text(label, len(label), table, len(table), 5, *room),
+    )
+    return text.decode("ascii")
+
+
+_BLOCKS = {3: ("OBJECT", 4), 5: ("GROUP", 6)}
+_SEQUENCE, _END_SEQUENCE, _SET, _END_SET, _UNIT, _LAST = 20, 21, 22, 23, 15, 99
+
+
+class _Table:
+    """Takes the rows of a proper table one after another."""
+
+    def __init__(self, label, table):
+        self.label = label
+        self.table = table
+        self.at = 0
+
+    def take(self, count):
+        self.at += count
+        return self.table[self.at - count : self.at]
+
+    def unsigned(self, count):
+        return int.from_bytes(self.take(count), "big")
+
+    def signed(self, count):
+        return int.from_bytes(self.take(count), "big", signed=True)
+
+    def span(self):
+        start, end = self.unsigned(2), self.unsigned(2)
+        return self.label[start:end]
+
+    def name(self):
+        return self.span().decode("ascii").upper()
+
+    def statements(self):
+        """The statements up to the closing row, or to the last."""
+        statements = []
+        while True:
+            kind = self.unsigned(1)
+            if kind == 1:
+                statements.append(Attribute(self.name(), self.value()))
+            elif kind == 2:
+                statements.append(Pointer(self.name(), self.value()))
+            elif kind in _BLOCKS:
+                statements.append(Block(_BLOCKS[kind][0], self.name(), self.statements()))
+            else:
+                return statements
+
+    def value(self):
+        kind = self.unsigned(1)
+        if kind == _SEQUENCE:
+            return list(self.members(_END_SEQUENCE))
+        if kind == _SET:
+            return Set(self.members(_END_SET))
+        return self.scalar(kind)
+
+    def members(self, end):
+        while self.table[self.at] != end:
+            yield self.value()
+        self.take(1)
+
+    def scalar(self, kind):
+        if kind == 12:
+            return self.moment()
+        if kind == 13:
+            return _text(self.span())
+        if kind == 14:
+            return Symbol(self.name())
+        value = self.signed(8)
+        if kind == 11:
+            sign = 1 if value < 0 else 0
+            digits = tuple(int(digit) for digit in str(abs(value)))
+            value = decimal.Decimal((sign, digits, self.signed(2)))
+        units = []
+        while self.table[self.at] == _UNIT:
+            self.take(1)
+            joint = ("", "*", "/")[self.unsigned(1)]
+            units.append(Unit(joint, self.name(), self.signed(1)))
+        return Quantity(value, tuple(units)) if units else value
+
+    def moment(self):
+        parts = self.unsigned(1)
+        year, month, day = self.unsigned(2), self.unsigned(1), self.unsigned(1)
+        hour, minute, second = self.unsigned(1), self.unsigned(1), self.unsigned(1)
+        nanoseconds = self.unsigned(4)
+        zone = datetime.timezone(datetime.timedelta(minutes=self.signed(2)))
+        date = datetime.date(year, month, day) if parts & 1 else None
+        if parts == 1:
+            return date
+        if nanoseconds % 1000 != 0:
+            return Moment(date, hour, minute, second, nanoseconds, zone)
+        time = datetime.time(hour, minute, second, nanoseconds // 1000, zone)
+        return datetime.datetime.combine(date, time) if date else time

@@ -1,0 +1,283 @@
+"""Tests of odl.py; the expected values stand in the documents.
+
+    python3 bindings/python/test_odl.py
+"""
+
+import contextlib
+import datetime
+import io
+import os
+import re
+import tempfile
+import threading
+import unittest
+from decimal import Decimal
+
+import odl
+import weekdays
+from odl import Attribute, Block, Moment, Pointer, Quantity, Set, Symbol, Unit
+
+ROOT = os.path.join(os.path.dirname(os.path.abspath(__file__)), "..", "..")
+UTC = datetime.timezone.utc
+
+CAMERA = b"""object = cam /* rig 4 */ ignored
+ start = 1990-158T15:24:12
+ hold = 1.50 <sec**1>
+end_object
+END
+"""
+
+CANONICAL = b"""OBJECT = CAM\r
+  START = 1990-06-07T15:24:12Z\r
+  HOLD = 15.E-1 <SEC>\r
+END_OBJECT = CAM\r
+END\r
+"""
+
+
+def zone(minutes):
+    return datetime.timezone(datetime.timedelta(minutes=minutes))
+
+
+def value(written):
+    (statement,) = odl.read(b"A=" + written + b" END")
+    return statement.value
+
+
+def vectors():
+    """Name, label and answer of each example in the list."""
+    escapes = {b"n": b"\n", b"r": b"\r", b"t": b"\t", b'"': b'"'}
+
+    def byte(match):
+        mark = match[1]
+        return bytes([int(mark[1:], 16)]) if mark[:1] == b"x" else escapes[mark]
+
+    with open(os.path.join(ROOT, "examples", "vectors.txt"), "rb") as stream:
+        for line in stream.read().split(b"\n"):
+            if line and not line.startswith(b"#"):
+                name, _, label, answer, _ = line.split(b"\t")
+                label = re.sub(rb'\\(x[0-9A-F]{2}|[nrt"])', byte, label)
+                yield name.decode(), label, [int(number) for number in answer.split()]
+
+
+class Reading(unittest.TestCase):
+    def test_blocks(self):
+        start = datetime.datetime(1990, 6, 7, 15, 24, 12, tzinfo=UTC)
+        hold = Quantity(Decimal("1.5"), (Unit("", "SEC", 1),))
+        self.assertEqual(
+            odl.read(CAMERA),
+            [Block("OBJECT", "CAM", [Attribute("START", start), Attribute("HOLD", hold)])],
+        )
+        self.assertEqual(
+            odl.read(b"GROUP=g OBJECT=o A=1 END_OBJECT=O ^P=2 END_GROUP B=3 END"),
+            [
+                Block("GROUP", "G", [Block("OBJECT", "O", [Attribute("A", 1)]), Pointer("P", 2)]),
+                Attribute("B", 3),
+            ],
+        )
+        self.assertEqual(odl.read(b"END"), [])
+
+    def test_attributes_and_pointers_differ(self):
+        self.assertEqual(odl.read(b"^IMAGE=40 END"), [Pointer("IMAGE", 40)])
+        self.assertNotEqual(Pointer("A", 1), Attribute("A", 1))
+
+    def test_integers(self):
+        self.assertEqual(value(b"16#-4B#"), -75)
+        self.assertEqual(value(b"9223372036854775807"), 2**63 - 1)
+        self.assertEqual(value(b"-9223372036854775807"), 1 - 2**63)
+        self.assertIs(type(value(b"2#-0#")), int)
+
+    def test_reals_are_exact(self):
+        self.assertEqual(value(b"1.9200"), Decimal("1.92"))
+        self.assertEqual(value(b"-.999999999999999999"), Decimal("-0.999999999999999999"))
+        self.assertEqual(value(b"0.1E1000"), Decimal("1E999"))
+        self.assertEqual(value(b"1.0E-999"), Decimal("1E-999"))
+        self.assertEqual(value(b"0E5000"), Decimal(0))
+        self.assertIs(type(value(b"5.")), Decimal)
+
+    def test_dates_and_times(self):
+        self.assertEqual(value(b"1990-07"), datetime.date(1990, 1, 7))
+        self.assertEqual(value(b"2000-366"), datetime.date(2000, 12, 31))
+        self.assertEqual(value(b"10:00-00:30"), datetime.time(10, 0, tzinfo=zone(-30)))
+        self.assertEqual(value(b"10:00").utcoffset(), datetime.timedelta(0))
+        moment = value(b"1990-07-04T12:00:03.25+12:59")
+        self.assertEqual(moment.isoformat(), "1990-07-04T12:00:03.250000+12:59")
+        self.assertEqual(moment, datetime.datetime(1990, 7, 4, 12, 0, 3, 250000, zone(779)))
+        self.assertEqual(value(b"0001-1-1T0:0+12:59").year, 1)
+
+    def test_times_past_the_microsecond(self):
+        self.assertEqual(
+            value(b"1990-07T23:59:59.999999999Z"),
+            Moment(datetime.date(1990, 1, 7), 23, 59, 59, 999999999, UTC),
+        )
+        self.assertEqual(value(b"1:2:3.0000001-1"), Moment(None, 1, 2, 3, 100, zone(-60)))
+
+    def test_texts_are_reassembled(self):
+        self.assertEqual(value(b'"Jupi-\n  ter\r\n\tring"'), "Jupiter ring")
+        self.assertEqual(value(b'"Jupi- \nter"'), "Jupi- ter")
+        self.assertEqual(value(b'"\n"'), " ")
+        self.assertEqual(value(b'"-\n"'), "")
+        self.assertEqual(value(b'""'), "")
+        self.assertEqual(value(b'"a\x00-\x7f\nb  c"'), "ab  c")
+
+    def test_texts_and_symbols_differ(self):
+        self.assertIs(type(value(b'"IO"')), str)
+        self.assertIs(type(value(b"io")), Symbol)
+        self.assertEqual(value(b"io"), "IO")
+        self.assertEqual(repr(value(b"'it is'")), "Symbol('IT IS')")
+
+    def test_units(self):
+        speed = value(b"-2 <km*sec**-2/deg>")
+        units = (Unit("", "KM", 1), Unit("*", "SEC", -2), Unit("/", "DEG", 1))
+        self.assertEqual(speed, Quantity(-2, units))
+        self.assertEqual(str(speed), "-2 <KM*SEC**-2/DEG>")
+
+    def test_sequences_and_sets(self):
+        self.assertEqual(value(b"(1, B, \"c\")"), [1, "B", "c"])
+        self.assertEqual(value(b"((1, 2)(3))"), [[1, 2], [3]])
+        self.assertEqual(value(b"(1 <M>, 2)"), [Quantity(1, (Unit("", "M", 1),)), 2])
+        self.assertEqual(value(b"{2, 1, 2}"), Set([2, 1, 2]))
+        self.assertIs(type(value(b"{}")), Set)
+        self.assertEqual(len(value(b"{}")), 0)
+
+    def test_long_labels(self):
+        members = b"1," * 20000
+        self.assertEqual(value(b"(" + members + b"1)"), [1] * 20001)
+        texts = b"A=\"x\n y\"\n" * 6000
+        self.assertEqual(odl.read(texts + b"END"), [Attribute("A", "x y")] * 6000)
+        nested = b"OBJECT=X " * 80 + b"END_OBJECT " * 80 + b"END"
+        block = odl.read(nested)
+        for _ in range(80):
+            (block,) = block
+            self.assertEqual(block.name, "X")
+            block = block.statements
+
+    def test_other_buffers(self):
+        self.assertEqual(odl.read(bytearray(b"A=1 END")), [Attribute("A", 1)])
+        self.assertEqual(odl.read(memoryview(b"A=1 END")), [Attribute("A", 1)])
+        for wrong in ["A=1 END", 7, None]:
+            with self.assertRaises(TypeError):
+                odl.read(wrong)
+
+    def test_threads(self):
+        def work():
+            for _ in range(50):
+                if odl.relabel(CAMERA) != CANONICAL:
+                    wrong.append(1)
+
+        wrong = []
+        threads = [threading.Thread(target=work) for _ in range(4)]
+        for thread in threads:
+            thread.start()
+        for thread in threads:
+            thread.join()
+        self.assertEqual(wrong, [])
+
+
+class Refusing(unittest.TestCase):
+    def refused(self, label, code, place, call=odl.read):
+        with self.assertRaises(odl.OdlError) as caught:
+            call(label)
+        self.assertEqual((caught.exception.code, caught.exception.place), (code, place))
+        return caught.exception
+
+    def test_checked_examples(self):
+        for label, code, place in [
+            (b"", 10, 0),
+            (b"A=1990-366 END", 5, 2),
+            (b"A='' END", 4, 2),
+            (b"A=() END", 6, 3),
+            (b"OBJECT=X END_OBJECT=Y END", 7, 20),
+            (b"END;", 9, 0),
+            (b"A=1 /*/ END", 3, 4),
+            (b"A=9223372036854775808 END", 5, 2),
+            (b"OBJECT=X " * 81 + b"END", 8, 9 * 80),
+            (b"\x00", 2, 0),
+            (b"END".ljust(65536), 1, 65535),
+        ]:
+            self.refused(label, code, place)
+            self.refused(label, code, place, odl.relabel)
+
+    def test_reason(self):
+        error = self.refused(b"END;", 9, 0)
+        self.assertEqual(error.reason, "END without spacing or a line end after it")
+        self.assertEqual(str(error), "code 9 at 0: END without spacing or a line end after it")
+        self.assertIsInstance(error, ValueError)
+
+    def test_table_too_long_for_relabel(self):
+        label = b"A=(" + b"1," * 10000 + b"1)END"
+        self.assertEqual(len(odl.read(label)[0].value), 10001)
+        self.refused(label, 11, len(label), odl.relabel)
+
+    def test_written_too_long(self):
+        self.refused(b"A={} " * 9360 + b"END", 13, 65535, odl.relabel)
+
+
+class Relabelling(unittest.TestCase):
+    def test_example(self):
+        self.assertEqual(odl.relabel(CAMERA), CANONICAL)
+        self.assertEqual(odl.relabel(CANONICAL), CANONICAL)
+
+    def test_reading_back_gives_the_same(self):
+        with open(os.path.join(ROOT, "examples", "camera.lbl"), "rb") as stream:
+            label = stream.read()
+        written = odl.relabel(label)
+        self.assertEqual(odl.read(written), odl.read(label))
+        self.assertEqual(odl.relabel(written), written)
+
+
+class Listed(unittest.TestCase):
+    def test_answers(self):
+        count = 0
+        for name, label, (code, place, _) in vectors():
+            with self.subTest(name):
+                count += 1
+                try:
+                    odl.read(label)
+                    self.assertEqual(code, 0)
+                    self.assertEqual(odl.read(odl.relabel(label)), odl.read(label))
+                except odl.OdlError as error:
+                    self.assertEqual((error.code, error.place), (code, place))
+        self.assertGreater(count, 200)
+
+
+class Weekdays(unittest.TestCase):
+    def test_counters(self):
+        for label, expected in [
+            (b"START_TIME=1979-07-08T05:19:11 END", "Sunday"),
+            (b"start_time=1979-07-08T23:30-12:59 END", "Sunday"),
+            (b"START_TIME=1990-07 END", "Sunday"),
+            (b"START_TIME=1990-158T1:2:3.123456789 END", "Thursday"),
+            (b"START_TIME=2000-366 START_TIME=10:00 END", "Sunday"),
+            (b"START_TIME=10:00 START_TIME=2000-366 END", "undated"),
+            (b"START_TIME=(1990-07) END", "undated"),
+            (b'START_TIME="1990-07" END', "undated"),
+            (b"^START_TIME=1990-07 END", "undated"),
+            (b"OBJECT=X START_TIME=1990-07 END_OBJECT END", "undated"),
+            (b"END", "undated"),
+        ]:
+            self.assertEqual(weekdays.counter(label), expected)
+
+    def test_program(self):
+        with tempfile.TemporaryDirectory() as directory:
+            files = []
+            for label in [b"START_TIME=1979-07-08 END", b"END", b"END;", None]:
+                files.append(os.path.join(directory, f"{len(files)}.lbl"))
+                if label is not None:
+                    with open(files[-1], "wb") as stream:
+                        stream.write(label)
+            printed = io.StringIO()
+            with contextlib.redirect_stdout(printed):
+                status = weekdays.main(files)
+        lines = printed.getvalue().splitlines()
+        self.assertEqual(status, 1)
+        self.assertEqual([line.split()[-1] for line in lines[:8]], list("00000011"))
+        self.assertEqual(
+            lines[8], f"refused {files[2]}: code 9 at 0: END without spacing or a line end after it"
+        )
+        self.assertTrue(lines[9].startswith(f"refused {files[3]}: "))
+        self.assertEqual(len(lines), 10)
+
+
+if __name__ == "__main__":
+    unittest.main()

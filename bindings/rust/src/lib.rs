@@ -1,0 +1,13 @@
+#![doc = include_str!("../README.md")]
+
+mod error;
+mod label;
+pub mod raw;
+mod row;
+
+pub use error::{Code, Error};
+pub use label::{find, name, read, relabel, text, write, Entry, Label, Rows, Table};
+pub use row::{Date, Join, Moment, Name, Real, Row, Text, Time};
+
+/// No label, read or written, is longer than this many bytes.
+pub const LONGEST_LABEL: usize = 65_535;

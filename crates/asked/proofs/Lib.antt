@@ -1,0 +1,4 @@
+pub mod Sighted
+pub mod Spelled
+pub mod Lookups
+pub mod Displays

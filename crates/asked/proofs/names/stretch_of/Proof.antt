@@ -1,0 +1,45 @@
+use borrow.Author.Needs.{needs}
+use Rattle.asked.proofs.names.stretch_of.Statement.{statement}
+use Rattle.asked.proofs.names.stretch_of.Tie as tie
+use Rattle.asked.proofs.Displays.{name-is}
+
+ruleset ways = (name-is, needs)
+
+pub stretch-of-spec : {M : Type 1} → statement M
+stretch-of-spec =
+    tie.close
+    (tie.spec
+    (λ c. search ways)
+    (λ c. search ways)
+    (λ c. search ways)
+    (λ c. search ways)
+    (λ c. search ways)
+    (λ c. search ways)
+    (λ c. search ways)
+    (λ c. search ways)
+    (λ c. search ways)
+    (λ c. search ways)
+    (λ c. search ways)
+    (λ c. search ways)
+    (λ c. search ways)
+    (λ c. search ways)
+    (λ c. search ways)
+    (λ c. search ways)
+    (λ c. search ways)
+    (λ c. search ways)
+    (λ c. search ways)
+    (λ c. search ways)
+    (λ c. search ways)
+    (λ c. search ways)
+    (λ c. search ways)
+    (λ c. search ways)
+    (λ c. search ways)
+    (λ c. search ways)
+    (λ c. search ways)
+    (λ c. search ways)
+    (λ c. search ways)
+    (λ c. search ways)
+    (λ c. search ways)
+    (λ c. search ways)
+    (λ c. search ways)
+    (λ c. search ways))

@@ -1,0 +1,45 @@
+use borrow.Author.Needs.{needs}
+use Rattle.asked.proofs.places.way_of.Statement.{statement}
+use Rattle.asked.proofs.places.way_of.Tie as tie
+use Rattle.asked.proofs.Sighted.{way-is}
+
+ruleset ways = (way-is, needs)
+
+pub way-of-spec : {M : Type 1} → statement M
+way-of-spec =
+    tie.close
+    (tie.spec
+    (λ c. search ways)
+    (λ c. search ways)
+    (λ c. search ways)
+    (λ c. search ways)
+    (λ c. search ways)
+    (λ c. search ways)
+    (λ c. search ways)
+    (λ c. search ways)
+    (λ c. search ways)
+    (λ c. search ways)
+    (λ c. search ways)
+    (λ c. search ways)
+    (λ c. search ways)
+    (λ c. search ways)
+    (λ c. search ways)
+    (λ c. search ways)
+    (λ c. search ways)
+    (λ c. search ways)
+    (λ c. search ways)
+    (λ c. search ways)
+    (λ c. search ways)
+    (λ c. search ways)
+    (λ c. search ways)
+    (λ c. search ways)
+    (λ c. search ways)
+    (λ c. search ways)
+    (λ c. search ways)
+    (λ c. search ways)
+    (λ c. search ways)
+    (λ c. search ways)
+    (λ c. search ways)
+    (λ c. search ways)
+    (λ c. search ways)
+    (λ c. search ways))

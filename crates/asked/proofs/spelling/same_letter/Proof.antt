@@ -1,0 +1,14 @@
+use borrow.Author.Needs.{needs}
+use Rattle.asked.proofs.spelling.same_letter.Statement.{statement}
+use Rattle.asked.proofs.spelling.same_letter.Tie as tie
+use Rattle.asked.proofs.Spelled.{same-letters}
+
+ruleset ways = (same-letters, needs)
+
+pub same-letter-spec : {M : Type 1} → statement M
+same-letter-spec =
+    tie.close
+    (tie.spec
+    (λ c κs. search ways)
+    (λ c κs. search ways)
+    (λ c. search ways))

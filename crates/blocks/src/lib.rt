@@ -1,0 +1,121 @@
+// The open blocks in arrays, by value: only what opens or closes a block is handed them. The reader, the table's check and the writer share them.
+use rows::Kind;
+ghost use mathlib.Core.Path.{_≡_};
+ghost use mathlib.Core.List.{[], _∷_};
+ghost use Prim.Native.Nat.{_+_, _<_, _≤_};
+ghost use Rattle.blocks.specs.Stack.{block, kindCode, kindAt, topIn, topOf, startOf, endOf, rest, blocksOf};
+
+// The open blocks: where the name of each starts and ends, and its kind.
+pub struct Blocks {
+    pub starts: [u16; 80],
+    pub ends: [u16; 80],
+    pub kinds: [u8; 80],
+    pub depth: usize,
+}
+
+// The innermost open block, if any.
+pub enum Top {
+    Outside,
+    Object,
+    Group,
+}
+
+pub fn no_blocks() -> Blocks
+    ensures { λ r. ⌜ (blocksOf r ≡ []) × (r .depth ≡ 0) ⌝ }
+{
+    Blocks {
+        starts: [0; 80],
+        ends: [0; 80],
+        kinds: [0; 80],
+        depth: 0,
+    }
+}
+
+fn kind_code(k: Kind) -> u8
+    ensures { λ r. ⌜ r ≡ kindCode k ⌝ }
+{
+    match k {
+        Kind::Object => 3,
+        Kind::Group => 5,
+    }
+}
+
+fn top_kind(n: u8) -> Top
+    ensures { λ r. ⌜ r ≡ topIn (kindAt n) ⌝ }
+{
+    if n == 5 {
+        return Top::Group;
+    }
+    Top::Object
+}
+
+fn small(a: usize) -> u16
+    requires { ⌜ a < 65536 ⌝ }
+    ensures { λ r. ⌜ r ≡ a ⌝ }
+{
+    a as u16
+}
+
+fn large(a: u16) -> usize
+    ensures { λ r. ⌜ r ≡ a ⌝ }
+{
+    a as usize
+}
+
+pub fn push(b: Blocks, k: Kind, x: usize, y: usize) -> Blocks
+    requires { ⌜ (b .depth < 80) × (x < 65536) × (y < 65536) ⌝ }
+    ensures { λ r. ⌜ (blocksOf r ≡ block k x y ∷ blocksOf b) × (r .depth ≡ b .depth + 1) ⌝ }
+{
+    let mut r = b;
+    let d = b.depth;
+    r.starts[d] = small(x);
+    r.ends[d] = small(y);
+    r.kinds[d] = kind_code(k);
+    r.depth = d + 1;
+    r
+}
+
+pub fn pop(b: Blocks) -> Blocks
+    ensures { λ r. ⌜ (blocksOf r ≡ rest (blocksOf b)) × (r .depth ≤ b .depth) ⌝ }
+{
+    let mut r = b;
+    if 0 < b.depth {
+        r.depth = b.depth - 1;
+    }
+    r
+}
+
+pub fn top_of(b: Blocks) -> Top
+    requires { ⌜ b .depth ≤ 80 ⌝ }
+    ensures { λ r. ⌜ r ≡ topOf (blocksOf b) ⌝ }
+{
+    let d = b.depth;
+    if d == 0 {
+        return Top::Outside;
+    }
+    top_kind(b.kinds[d - 1])
+}
+
+// Where the innermost block's name starts, and 0 outside all blocks.
+pub fn name_start(b: Blocks) -> usize
+    requires { ⌜ b .depth ≤ 80 ⌝ }
+    ensures { λ r. ⌜ r ≡ startOf (blocksOf b) ⌝ }
+{
+    let d = b.depth;
+    if d == 0 {
+        return 0;
+    }
+    large(b.starts[d - 1])
+}
+
+// Where it ends.
+pub fn name_end(b: Blocks) -> usize
+    requires { ⌜ b .depth ≤ 80 ⌝ }
+    ensures { λ r. ⌜ r ≡ endOf (blocksOf b) ⌝ }
+{
+    let d = b.depth;
+    if d == 0 {
+        return 0;
+    }
+    large(b.ends[d - 1])
+}

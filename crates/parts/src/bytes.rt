@@ -1,0 +1,52 @@
+// Bytes at the start of the room that is lent.
+use classes::folded;
+ghost use mathlib.Core.Path.{_≡_};
+ghost use mathlib.Core.List.{[], _∷_, map};
+ghost use Prim.Native.Nat.{min};
+ghost use lib.ListN.{length};
+ghost use Rattle.rules.specs.Bytes.{fold};
+ghost use Rattle.parts.specs.Puts.{Puts};
+
+pub fn least(a: usize, b: usize) -> usize
+    ensures { λ r. ⌜ r ≡ min a b ⌝ }
+{
+    if a < b { a } else { b }
+}
+
+pub fn put_byte(out: &mut [u8], b: u8) -> usize
+    ensures { λ r. ⌜ Puts (b ∷ []) (now (out .entry)) (now (out .exit)) r ⌝ }
+{
+    if out.len() < 1 {
+        return 1;
+    }
+    out[0] = b;
+    1
+}
+
+pub fn put_bytes(out: &mut [u8], w: &[u8]) -> usize
+    ensures { λ r. ⌜ Puts (now (w .entry)) (now (out .entry)) (now (out .exit)) r ⌝ }
+{
+    if out.len() < w.len() {
+        return w.len();
+    }
+    let mut i = 0;
+    while i < w.len() {
+        out[i] = w[i];
+        i += 1;
+    }
+    i
+}
+
+pub fn put_folded(out: &mut [u8], w: &[u8]) -> usize
+    ensures { λ r. ⌜ Puts (map fold (now (w .entry))) (now (out .entry)) (now (out .exit)) r × (r ≡ length (now (w .entry))) ⌝ }
+{
+    if out.len() < w.len() {
+        return w.len();
+    }
+    let mut i = 0;
+    while i < w.len() {
+        out[i] = folded(w[i]);
+        i += 1;
+    }
+    i
+}

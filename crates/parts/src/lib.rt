@@ -1,0 +1,18 @@
+// Parts of what is written: bytes, names case folded and texts reassembled, each at the start of the room that is lent. A part is counted whether or not it fits, and
+// stands in the room where it does: so one function both measures and writes.
+mod bytes; // bytes.rt: a byte, and bytes as they are or case folded
+mod texts; // texts.rt: a text reassembled
+
+pub use bytes::least;
+pub use bytes::put_byte;
+pub use bytes::put_bytes;
+pub use bytes::put_folded;
+pub use texts::put_reassembled;
+
+// What a byte of a text leaves: a byte or none; whether the run that it stands in has been dealt with, or is known to hold no line end.
+pub struct Turn {
+    pub put: bool,
+    pub byte: u8,
+    pub dealt: bool,
+    pub known: bool,
+}

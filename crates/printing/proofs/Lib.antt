@@ -1,0 +1,7 @@
+pub mod Chains
+pub mod Digits
+pub mod Moments
+pub mod Between
+pub mod Symbols
+pub mod Blocks
+pub mod Sorts

@@ -1,0 +1,30 @@
+use borrow.Author.Needs.{needs}
+use Rattle.printing.proofs.values.is_name.Statement.{statement}
+use Rattle.printing.proofs.values.is_name.Tie as tie
+use Rattle.printing.proofs.Symbols.{name-as}
+
+ruleset ways = (name-as, needs)
+
+pub is-name-spec : {M : Type 1} → statement M
+is-name-spec =
+    tie.close
+    (tie.spec
+    (λ c κs. search ways)
+    (λ c. search ways)
+    (λ c. search ways)
+    (λ c. search ways)
+    (λ c. search ways)
+    (λ c. search ways)
+    (λ c. search ways)
+    (λ c. search ways)
+    (λ c. search ways)
+    (λ c. search ways)
+    (λ c. search ways)
+    (λ c. search ways)
+    (λ c. search ways)
+    (λ c. search ways)
+    (λ c. search ways)
+    (λ c. search ways)
+    (λ c. search ways)
+    (λ c. search ways)
+    (λ c. search ways))

@@ -1,0 +1,51 @@
+-- What a row of the code writes, in the rules' own terms.
+use Prim.Native.Nat.{ℕ, _≤_}
+use mathlib.Core.Path.{_≡_}
+use mathlib.Core.List.{List, []}
+use Rattle.rules.specs.Data.{Kind, Opens, outside, inside, depth, closed}
+use Rattle.rules.specs.Meaning.{Sense, meaning}
+use Rattle.rules.specs.Written as rule
+use Rattle.rules.proofs.Written.Lines.{leaves}
+use Rattle.rows.specs.Rows.{rowsOf}
+use Rattle.rows.specs.declared.Row.{Row}
+use Rattle.parts.specs.Puts.{Puts}
+use Rattle.printing.specs.declared.Prior.{Prior}
+use Rattle.printing.specs.declared.Prior.the-variants as priors
+
+abbrev pub priorOf : Prior → rule.Prior
+priorOf priors.Start = rule.start
+priorOf priors.Line = rule.line
+priorOf priors.Assigned = rule.assigned
+priorOf priors.Member = rule.member
+priorOf priors.Factor = rule.factor
+priorOf priors.Bracket = rule.bracket
+priorOf priors.Row = rule.row
+
+-- the name of the innermost block
+abbrev pub topOf : Opens → List ℕ
+topOf outside = []
+topOf (inside k n o) = n
+
+-- so many blocks are open, and the innermost has this name
+pub record Sees (o : Opens) (d : ℕ) (top : List ℕ) : Type 0 where
+  pub deep : depth o ≡ d
+  pub named : topOf o ≡ top
+
+-- what a row writes within so many blocks
+pub record Writes (q : rule.Prior) (d : ℕ) (s : Sense) (before after : List ℕ) (n : ℕ) : Type 0 where
+  pub puts : (o : Opens) → depth o ≡ d → Puts (rule.writes q o s) before after n
+  pub most : n ≤ 200000
+
+-- what a closing row writes within so many blocks, the innermost of this name
+pub record Closes (q : rule.Prior) (d : ℕ) (top : List ℕ) (k : Kind) (before after : List ℕ) (n : ℕ) : Type 0 where
+  pub puts : (o : Opens) → Sees o d top → Puts (rule.writes q o (closed k)) before after n
+  pub most : n ≤ 200000
+
+-- what a row of the code writes
+pub record RowPut (given : List ℕ) (q : rule.Prior) (d : ℕ) (top : List ℕ) (row : Row) (before after : List ℕ) (n : ℕ) : Type 0 where
+  pub puts : (o : Opens) → Sees o d top → Puts (rule.writesAll q o (meaning given (rowsOf row))) before after n
+  pub most : n ≤ 200000
+
+-- what a row of the code is to the row after it; no row's place among the rules' priors depends on the label
+pub record Leaves (q : rule.Prior) (row : Row) (p : rule.Prior) : Type 0 where
+  pub is : p ≡ leaves q (meaning [] (rowsOf row))

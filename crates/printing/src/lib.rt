@@ -1,0 +1,123 @@
+// The written label: what each row writes after the row before it.
+mod numbers; // numbers.rt: numbers in decimal
+mod times; // times.rt: dates and times
+mod lines; // lines.rt: what stands between rows
+mod values; // values.rt: the rows of values
+mod statements; // statements.rt: the rows of statements and blocks
+
+use rows::Row;
+use statements::put_attribute;
+use statements::put_close;
+use statements::put_end;
+use statements::put_open;
+use statements::put_pointer;
+use values::put_float;
+use values::put_integer;
+use values::put_sequence;
+use values::put_sequence_end;
+use values::put_set;
+use values::put_set_end;
+use values::put_symbol;
+use values::put_text;
+use values::put_unit;
+use values::put_when;
+ghost use mathlib.Core.Path.{_≡_};
+ghost use mathlib.Core.List.{map};
+ghost use Prim.Native.Nat.{_≤_};
+ghost use lib.ListN.{length};
+ghost use Rattle.rules.specs.Bytes.{fold};
+ghost use Rattle.rules.specs.Proper.{stretch};
+ghost use Rattle.rows.specs.Rows.{span};
+ghost use Rattle.printing.specs.Lines.{priorOf, RowPut, Leaves};
+
+// What the row before leaves: nothing is written yet; a whole line; `NAME =`; a scalar; a unit; a bracket; a row of a sequence of sequences.
+pub enum Prior {
+    Start,
+    Line,
+    Assigned,
+    Member,
+    Factor,
+    Bracket,
+    Row,
+}
+
+// Decimals: how many, and the number that they are the digits of.
+pub struct Fraction {
+    pub size: usize,
+    pub value: u64,
+}
+
+// The bytes of a span, as far as they lie inside.
+fn part_of<'a>(s: &'a [u8], a: usize, b: usize) -> &'a [u8]
+    ensures { λ r. ⌜ (now r ≡ stretch (now (s .entry)) (span a b)) × (length (now r) ≤ length (now (s .entry))) ⌝ }
+{
+    if b < a {
+        return &s[..0];
+    }
+    if s.len() < a {
+        return &s[..0];
+    }
+    if s.len() < b {
+        return &s[a..];
+    }
+    &s[a..b]
+}
+
+// What a row is to the row after it.
+pub fn prior_after(q: Prior, row: Row) -> Prior
+    ensures { λ r. ⌜ Leaves (priorOf q) row (priorOf r) ⌝ }
+{
+    match row {
+        Row::Nothing => q,
+        Row::Attribute(_, _) => Prior::Assigned,
+        Row::Pointer(_, _) => Prior::Assigned,
+        Row::Open(_, _, _) => Prior::Line,
+        Row::Close(_) => Prior::Line,
+        Row::Integer(_, _) => Prior::Member,
+        Row::Float(_) => Prior::Member,
+        Row::Time(_) => Prior::Member,
+        Row::Text(_, _) => Prior::Member,
+        Row::Symbol(_, _) => Prior::Member,
+        Row::Unit(_, _, _, _, _) => Prior::Factor,
+        Row::Sequence => Prior::Bracket,
+        Row::SequenceEnd => Prior::Row,
+        Row::Set => Prior::Bracket,
+        Row::SetEnd => Prior::Bracket,
+        Row::Last(_) => Prior::Line,
+        Row::Stop(_, _) => q,
+    }
+}
+
+// A row after the row before it, within d blocks, the innermost of which has its name at a span of the label.
+pub fn put_row(
+    out: &mut [u8],
+    label: &[u8],
+    q: Prior,
+    d: usize,
+    from: usize,
+    to: usize,
+    row: Row,
+) -> usize
+    requires { ⌜ (d ≤ 80) × (length (now label) ≤ 65535) ⌝ }
+    ensures { λ r. ⌜ RowPut (now (label .entry)) (priorOf q) d (map fold (stretch (now (label .entry)) (span from to))) row (now (out .entry)) (now (out .exit)) r ⌝ }
+{
+    match row {
+        Row::Nothing => 0,
+        Row::Attribute(a, b) => put_attribute(out, q, d, part_of(label, a, b)),
+        Row::Pointer(a, b) => put_pointer(out, q, d, part_of(label, a, b)),
+        Row::Open(k, a, b) => put_open(out, q, d, k, part_of(label, a, b)),
+        Row::Close(k) => put_close(out, q, d, k, part_of(label, from, to)),
+        Row::Integer(m, v) => put_integer(out, q, m, v),
+        Row::Float(x) => put_float(out, q, x),
+        Row::Time(x) => put_when(out, q, x),
+        Row::Text(a, b) => put_text(out, q, part_of(label, a, b)),
+        Row::Symbol(a, b) => put_symbol(out, q, part_of(label, a, b)),
+        Row::Unit(op, a, b, m, v) => put_unit(out, q, op, part_of(label, a, b), m, v),
+        Row::Sequence => put_sequence(out, q),
+        Row::SequenceEnd => put_sequence_end(out, q),
+        Row::Set => put_set(out, q),
+        Row::SetEnd => put_set_end(out, q),
+        Row::Last(_) => put_end(out, q, d),
+        Row::Stop(_, _) => 0,
+    }
+}

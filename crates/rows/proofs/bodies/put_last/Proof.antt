@@ -1,0 +1,20 @@
+use Rattle.rows.proofs.Writing.{onward}
+use borrow.Author.Needs.{needs}
+use Rattle.rows.proofs.bodies.put_last.Statement.{statement}
+use Rattle.rows.proofs.bodies.put_last.Tie as tie
+
+returns : tie.Need-returns
+returns c = onward (c .before .before .before .before .before .before .put-byte .ensures) (c .before .before .put-two .ensures)
+
+pub put-last-spec : {M : Type 1} → statement M
+put-last-spec =
+    tie.close
+    (tie.spec
+    (λ c κs. search needs)
+    (λ c. search needs)
+    (λ c. search needs)
+    (λ c. search needs)
+    (λ c κs. search needs)
+    (λ c. search needs)
+    (λ c. search needs)
+    returns)

@@ -1,0 +1,25 @@
+use Rattle.rows.proofs.Writing.{onward}
+use borrow.Author.Needs.{needs}
+use Rattle.rows.proofs.bodies.put_span.Statement.{statement}
+use Rattle.rows.proofs.bodies.put_span.Tie as tie
+
+returns : tie.Need-returns
+returns c = onward (onward (c .before .before .before .before .before .before .before .before .before .before .put-byte .ensures) (c .before .before .before .before .before .before .put-two .ensures)) (c .before .before .put-two2 .ensures)
+
+pub put-span-spec : {M : Type 1} → statement M
+put-span-spec =
+    tie.close
+    (tie.spec
+    (λ c κs. search needs)
+    (λ c. search needs)
+    (λ c. search needs)
+    (λ c. search needs)
+    (λ c κs. search needs)
+    (λ c. search needs)
+    (λ c. search needs)
+    (λ c. search needs)
+    (λ c. search needs)
+    (λ c κs. search needs)
+    (λ c. search needs)
+    (λ c. search needs)
+    returns)

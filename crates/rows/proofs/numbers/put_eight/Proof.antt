@@ -1,0 +1,20 @@
+use Rattle.rows.proofs.Writing.{onward, in-eight}
+use borrow.Author.Needs.{needs}
+use Rattle.rows.proofs.numbers.put_eight.Statement.{statement}
+use Rattle.rows.proofs.numbers.put_eight.Tie as tie
+
+returns : tie.Need-returns
+returns c = in-eight _ (onward (c .before .before .before .before .before .before .put-four .ensures) (c .before .before .put-four2 .ensures))
+
+pub put-eight-spec : {M : Type 1} → statement M
+put-eight-spec =
+    tie.close
+    (tie.spec
+    (λ c κs. search needs)
+    (λ c. search needs)
+    (λ c. search needs)
+    (λ c. search needs)
+    (λ c κs. search needs)
+    (λ c. search needs)
+    (λ c. search needs)
+    returns)

@@ -1,0 +1,76 @@
+-- The answer of a reading, from a pass into a room of the reader's own.
+use Prim.Native.Nat.{ℕ, _≤_, _<_}
+use native.Mathlib.Omega.{arith}
+use mathlib.Core.Path.{_≡_, refl, sym, ap, _∙_}
+use mathlib.Core.List.{List, [], _∷_, _++_}
+use lib.ListN.{length, take, drop}
+use lib.Seq.{take-at}
+use types.Run.{OneOf, miss}
+use denote.Enum.Declared.{tagOf, declared}
+use Rattle.rules.specs.Data.{Row}
+use Rattle.rules.specs.Modes.{base}
+use Rattle.rules.specs.Table.{table}
+use Rattle.rules.specs.Reading.{Said, accepted, refused, Judged, Reads, too-long, read, Answered, stored, no-room, not-read}
+use Rattle.rules.proofs.Reading.Reader.{reading-unique}
+use Rattle.statements.specs.Answer.{said}
+use Rattle.statements.specs.Passes.{Passed, follows, is-refused}
+use Rattle.statements.specs.declared.Reading.{Reading}
+use Rattle.statements.specs.declared.Reading.the-variants.{Accepted, TooLong, NoRoom}
+use Rattle.statements.proofs.Reading.{enum}
+
+-- an accepted label
+record Accepts (label before after : List ℕ) (p n : ℕ) : Type 0 where
+  pub rows : List Row
+  pub judged : Judged base label (accepted rows p)
+  pub count : n ≡ length (table rows)
+  pub bytes : n ≤ length before → after ≡ table rows ++ drop n before
+
+accepts : {label before after : List ℕ} {p n : ℕ} {r : Reading} → Passed label before after r → r ≡ Accepted p n → Accepts label before after p n
+accepts {label} {before} {after} {p} {n} (follows {rows} {i} {n = k} j c h) e =
+    let x : i ≡ p = cc in
+    let y : k ≡ n = cc in
+    record { rows = rows; judged = rw x at j; count = rw y at c; bytes = rw y at h }
+accepts (is-refused j k q) e = absurd (omega (arith, k, sym (ap (λ (s : Said). s .code) q) ∙ ap (λ (r : Reading). said r .code) e))
+
+front : (t own : List ℕ) (n : ℕ) → n ≡ length t → take n (t ++ drop n own) ≡ t
+front t own n h = rw h (take-at t (drop (length t) own) (length t) refl)
+
+same-rows : {rows rows′ : List Row} {i i′ : ℕ} → accepted rows i ≡ accepted rows′ i′ → rows ≡ rows′
+same-rows e = cc
+
+not-both : {rows : List Row} {i c i′ : ℕ} → accepted rows i ≡ refused c i′ → ⊥
+not-both e = let z : _≡_ {A = ℕ} 0 1 = cc in omega arith
+
+stored-as : {label room end : List ℕ} {rows : List Row} {p n : ℕ} → Reads base label (accepted rows p) → n ≡ length (table rows) → n ≤ length room → end ≡ table rows ++ drop n room →
+    Answered base label room (said (Accepted p n)) end
+stored-as r c h q = rw (q, c) (stored r (omega (arith, c)))
+
+pub not-read-long : (label room : List ℕ) → 65535 < length label → Answered base label room (said TooLong) room
+not-read-long label room h = not-read (too-long h)
+
+module _ {label own last : List ℕ} {r : Reading} (room : List ℕ) (s : length label ≤ 65535) (f : Passed label own last r) where
+  pub refusal-stands : OneOf (1 ∷ 2 ∷ 3 ∷ 4 ∷ 5 ∷ 6 ∷ 7 ∷ 8 ∷ 9 ∷ 10 ∷ 11 ∷ []) (tagOf (declared enum) r) → Answered base label room (said r) room
+  refusal-stands h = go f h
+    where
+      go : {r : Reading} → Passed label own last r → OneOf (1 ∷ 2 ∷ 3 ∷ 4 ∷ 5 ∷ 6 ∷ 7 ∷ 8 ∷ 9 ∷ 10 ∷ 11 ∷ []) (tagOf (declared enum) r) → Answered base label room (said r) room
+      go (follows j c b) h = absurd (miss (1 ∷ 2 ∷ 3 ∷ 4 ∷ 5 ∷ 6 ∷ 7 ∷ 8 ∷ 9 ∷ 10 ∷ 11 ∷ []) 0 tt h)
+      go (is-refused j k q) h = rw q (not-read (read s j))
+
+  module _ {p n : ℕ} (e : r ≡ Accepted p n) where
+    pub short : length room < n → Answered base label room (said (NoRoom p n)) room
+    short h = let a = accepts f e in rw (a .count) (no-room (read s (a .judged)) (omega (arith, a .count)))
+
+    pub copied : {end : List ℕ} → n ≤ length room → n ≤ length own → end ≡ take n last ++ drop n room → Answered base label room (said (Accepted p n)) end
+    copied {end} h g q =
+        let a = accepts f e in
+        let w : last ≡ table (a .rows) ++ drop n own = a .bytes g in
+        let t : take n last ≡ table (a .rows) = ap (take n) w ∙ front (table (a .rows)) own n (a .count) in
+        stored-as (read s (a .judged)) (a .count) h (q ∙ ap (λ (l : List ℕ). l ++ drop n room) t)
+
+    pub direct : {end : List ℕ} {r′ : Reading} → n ≤ length room → Passed label room end r′ → Answered base label room (said r′) end
+    direct h (follows {rows} {n = m} j c b) =
+        let a = accepts f e in
+        let u = same-rows (reading-unique base (read s (a .judged)) (read s j)) in
+        let k : m ≤ length room = omega (arith, c, a .count, ap (λ (x : List Row). length (table x)) u) in
+        stored-as (read s j) c k (b k)
+    direct h (is-refused j k q) = absurd (not-both (reading-unique base (read s (accepts f e .judged)) (read s j)))

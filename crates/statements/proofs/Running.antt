@@ -1,0 +1,208 @@
+-- The loop over the elements: what holds between two of them, and what each way out makes of it.
+use mathlib.Core.Path.{_≡_, refl, sym, ap, _∙_, subst}
+use mathlib.Core.Bool.{false, false≢true}
+use mathlib.Core.List.{List, [], _∷_, _++_, append-assoc, append-nil}
+use Prim.Native.Nat.{ℕ, zero, suc, _+_, _-_, _*_, _<_, _≤_}
+use native.Mathlib.Omega.{arith}
+use lib.ListN.{length, drop, length-append, length-take, length-drop}
+use Rattle.rules.specs.Data as rule
+use Rattle.rules.specs.Modes.{base}
+use Rattle.rules.specs.Grammar.{strict}
+use Rattle.rules.specs.Elements.{placed}
+use Rattle.rules.specs.Table.{encode, table}
+use Rattle.rules.specs.Reading.{Outcome, accepted, refused, Judged}
+use Rattle.rules.proofs.Grammar.Machine as machine
+use Rattle.rules.proofs.Elements.Next as found
+use Rattle.rules.proofs.Reading.Reader.{isEnd, onto, Stop, at-the-end, at-a-fault, at-an-element, at-no-more, Goes, now, later, gather, judged}
+use Rattle.classes.specs.Places.{part}
+use Rattle.elements.specs.Next.{placedOf, placeOf, NextAt, an-element, a-fault, no-more}
+use Rattle.elements.specs.declared.Element.{Element}
+use Rattle.elements.specs.declared.Element.the-variants.{Name}
+use Rattle.elements.specs.declared.Found.{Found}
+use Rattle.elements.specs.declared.Found.the-variants.{Next, Fault, Finish}
+use Rattle.rows.specs.Rows.{rowsOf}
+use Rattle.rows.specs.declared.Row.{Row}
+use Rattle.rows.specs.declared.Row.the-variants as rows
+use Rattle.statements.specs.Passes.{Refusal, Added, Passed, follows, is-refused}
+use Rattle.steps.specs.States.{stateOf, opensOf, isEnded, Does, Begins}
+use Rattle.blocks.specs.Stack.{Block, blocksOf, blocksIn}
+use Rattle.statements.specs.Opened.{Sound}
+use Rattle.statements.specs.declared.Reading.{Reading}
+use Rattle.statements.specs.declared.Reading.the-variants.{Accepted, EndsEarly}
+use Rattle.steps.specs.declared.Mode.the-variants as modes
+use Rattle.steps.specs.declared.State.{State}
+use Rattle.steps.specs.declared.Stepped.{Stepped}
+use Rattle.blocks.specs.declared.Blocks.{Blocks}
+use Rattle.statements.proofs.Codes.{judged-code}
+use Rattle.statements.proofs.Rooms.{behind}
+use Rattle.statements.proofs.Turns.{Moves, not-end, turn-last, last-state, turn-stop, sound-start}
+
+-- ---- outcomes and tables
+
+onto-nil : (z : Outcome) → onto [] z ≡ z
+onto-nil (accepted qs i) = refl
+onto-nil (refused c i) = refl
+
+onto-onto : (rs qs : List rule.Row) (z : Outcome) → onto rs (onto qs z) ≡ onto (rs ++ qs) z
+onto-onto rs qs (accepted ps i) = ap (λ (l : List rule.Row). accepted l i) (sym (append-assoc rs qs ps))
+onto-onto rs qs (refused c i) = refl
+
+table-append : (rs qs : List rule.Row) → table (rs ++ qs) ≡ table rs ++ table qs
+table-append [] qs = refl
+table-append (r ∷ rs) qs = ap (λ (l : List ℕ). encode r ++ l) (table-append rs qs) ∙ sym (append-assoc (encode r) (table rs) (table qs))
+
+-- ---- one element of the rules' reading
+
+part-length : (l : List ℕ) (a b : ℕ) → a ≤ b → b ≤ length l → length (part l a b) ≡ b - a
+part-length l a b h k = simp (length-take, length-drop) (omega arith)
+
+steps-on : {q q′ : machine.State} {o o′ : rule.Opens} {i n j : ℕ} {l g w r : List ℕ} {x : rule.Elem} {rs : List rule.Row} {z : Outcome} → isEnd q ≡ false →
+    found.NextIs base l (found.found x n g w r) → machine.step base strict q o (placed i g w x n) ≡ machine.goes q′ o′ rs → i + length g + length w ≡ j → Goes base q′ o′ j r z → Goes base q o i l (onto rs z)
+steps-on h (found.finds a b) e k t = later h a b e (rw (← k) at t)
+
+halts-at : {q : machine.State} {o : rule.Opens} {i n c p : ℕ} {l g w r : List ℕ} {x : rule.Elem} → isEnd q ≡ false →
+    found.NextIs base l (found.found x n g w r) → machine.step base strict q o (placed i g w x n) ≡ machine.refuses c → i + length g ≡ p → Goes base q o i l (refused c p)
+halts-at h (found.finds a b) e k = rw (← k) (now (at-an-element h a b e))
+
+faults-at : {q : machine.State} {o : rule.Opens} {i c p : ℕ} {l g : List ℕ} → isEnd q ≡ false → found.NextIs base l (found.faulty c g) → i + length g ≡ p → Goes base q o i l (refused c p)
+faults-at h (found.faults a b) k = rw (← k) (now (at-a-fault h a b))
+
+ends-at : {q : machine.State} {o : rule.Opens} {i p : ℕ} {l : List ℕ} → isEnd q ≡ false → found.NextIs base l found.none-left → i + length l ≡ p → Goes base q o i l (refused 10 p)
+ends-at h (found.ends a) k = rw (← k) (now (at-no-more h a))
+
+-- ---- the same of what `next` found
+
+module _ {label : List ℕ} {q : machine.State} {o : rule.Opens} {at : ℕ} (h : isEnd q ≡ false) where
+  one-turn : {e : Element} {to : ℕ} {q′ : machine.State} {o′ : rule.Opens} {rs : List rule.Row} {z : Outcome} → NextAt label at (Next e to) →
+      machine.step base strict q o (placedOf label e) ≡ machine.goes q′ o′ rs → Goes base q′ o′ to (drop to label) z → Goes base q o at (drop at label) (onto rs z)
+  one-turn {to = to} (an-element {at = p} a b c n y k) e g =
+      steps-on h n (rw (← y) e) (omega (arith, part-length label at p a (omega arith), part-length label p to (omega arith) c)) g
+
+  refuse-turn : {e : Element} {to c : ℕ} → NextAt label at (Next e to) → machine.step base strict q o (placedOf label e) ≡ machine.refuses c → Goes base q o at (drop at label) (refused c (placeOf e))
+  refuse-turn (an-element {at = p} a b c n y k) e = halts-at h n (rw (← y) e) (omega (arith, k, part-length label at p a (omega arith)))
+
+  fault-turn : {c p : ℕ} → NextAt label at (Fault c p) → Goes base q o at (drop at label) (refused c p)
+  fault-turn {p = p} (a-fault a b n) = faults-at h n (omega (arith, part-length label at p a (omega arith)))
+
+  end-turn : {p : ℕ} → at ≤ length label → NextAt label at (Finish p) → Goes base q o at (drop at label) (refused 10 p)
+  end-turn k (no-more n) = ends-at h n (simp length-drop (omega arith))
+
+-- ---- the invariant
+
+-- the rows so far, whose bytes stand in the room as far as they fit; and whatever the rules give from here on, they give it from the start with these rows before it
+pub record Sofar (label before out : List ℕ) (t : State) (b : Blocks) (at n : ℕ) : Type 0 where
+  pub rs : List rule.Row
+  pub on : (z : Outcome) → Goes base (stateOf label t) (opensOf label (blocksOf b)) at (drop at label) z → Goes base machine.at-statement rule.outside 0 label (onto rs z)
+  pub within : at ≤ length label
+  pub count : n ≡ length (table rs)
+  pub small : n ≤ 15 * at
+  pub long : length out ≡ length before
+  pub bytes : n ≤ length before → out ≡ table rs ++ drop n before
+
+pub record Running (label before out : List ℕ) (t : State) (b : Blocks) (at n : ℕ) : Type 0 where
+  pub sofar : Sofar label before out t b at n
+  pub sound : Sound t b
+  pub going : isEnded (t .mode) ≡ false
+
+-- in the base mode the first statement may begin wherever another may
+first-stop : {o : rule.Opens} {i : ℕ} {l : List ℕ} {z : Outcome} → Stop base machine.at-semicolon o i l z → Stop base machine.at-statement o i l z
+first-stop (at-the-end x) = absurd (false≢true x)
+first-stop (at-a-fault x g f) = at-a-fault refl g f
+first-stop (at-an-element x g s e) = at-an-element refl g s e
+first-stop (at-no-more x g) = at-no-more refl g
+
+first-statement : {o : rule.Opens} {i : ℕ} {l : List ℕ} {z : Outcome} → Goes base machine.at-semicolon o i l z → Goes base machine.at-statement o i l z
+first-statement (now s) = now (first-stop s)
+first-statement (later x g s e t) = later refl g s e t
+
+none-held : (s e k : List ℕ) (d : ℕ) → d ≡ 0 → blocksIn s e k d ≡ []
+unfolding blocksIn
+none-held s e k zero h = refl
+none-held s e k (suc n) h = absurd (omega arith)
+
+from-start : (label : List ℕ) (t : State) (bs : List Block) (z : Outcome) → t .mode ≡ modes.Statement → bs ≡ [] → Goes base (stateOf label t) (opensOf label bs) 0 label z →
+    Goes base machine.at-statement rule.outside 0 label (onto [] z)
+from-start label t bs z m b g = rw (onto-nil z) (first-statement (rw (m, b) at g))
+
+pub begins : (label out : List ℕ) (t : State) (b : Blocks) → Begins t → b .depth ≡ 0 → Running label out out t b 0 0
+begins label out t b g d = record {
+  sofar = record {
+    rs = [];
+    on = λ z x. from-start label t (blocksOf b) z (g .mode) (none-held (b .starts) (b .ends) (b .kinds) (b .depth) d) x;
+    within = omega arith;
+    count = refl;
+    small = omega arith;
+    long = refl;
+    bytes = λ z. refl;
+  };
+  sound = sound-start t b g d;
+  going = rw (g .mode);
+}
+
+found-at : {label : List ℕ} {at : ℕ} {f v : Found} → NextAt label at f → f ≡ v → NextAt label at v
+found-at {label} {at} x h = subst (λ (y : Found). NextAt label at y) h x
+
+pub ahead : {label : List ℕ} {at to : ℕ} {e : Element} {f : Found} → NextAt label at f → f ≡ Next e to → (at < to) × (to ≤ length label)
+ahead x h = go (found-at x h)
+  where
+    go : {label : List ℕ} {at to : ℕ} {e : Element} → NextAt label at (Next e to) → (at < to) × (to ≤ length label)
+    go (an-element a b c n y k) = (omega arith, c)
+
+abbrev uptoOf : rule.Placed → ℕ
+uptoOf (rule._on_ x p) = p .upto
+
+-- a name lies within what two bytes can say
+pub name-places : {label : List ℕ} {at to x y : ℕ} {e : Element} {f : Found} → NextAt label at f → f ≡ Next e to → e ≡ Name x y → length label ≤ 65535 → (x < 65536) × (y < 65536)
+name-places {label} {at} {to} {x} {y} n h k s = go (subst (λ (v : Element). NextAt label at (Next v to)) k (found-at n h))
+  where
+    go : NextAt label at (Next (Name x y) to) → (x < 65536) × (y < 65536)
+    go (an-element {at = p} a b c n z q) = (omega arith, omega (arith, ap uptoOf z, part-length label at p a (omega arith), part-length label p to (omega arith) c))
+
+module _ {label before out out′ : List ℕ} {t : State} {b : Blocks} {at n n′ to : ℕ} {e : Element} where
+  -- one row more
+  goes-on : (row : Row) {t′ : State} {b′ : Blocks} → Running label before out t b at n → NextAt label at (Next e to) → (at < to) × (to ≤ length label) →
+      machine.step base strict (stateOf label t) (opensOf label (blocksOf b)) (placedOf label e) ≡ machine.goes (stateOf label t′) (opensOf label (blocksOf b′)) (rowsOf row) →
+      Added (table (rowsOf row)) n out out′ n′ → Sofar label before out′ t′ b′ to n′
+  goes-on row s x l m a =
+      let f = s .sofar in
+      let tb : table (f .rs ++ rowsOf row) ≡ table (f .rs) ++ table (rowsOf row) = table-append (f .rs) (rowsOf row) in
+      record {
+        rs = f .rs ++ rowsOf row;
+        on = λ z g. subst (λ (y : Outcome). Goes base machine.at-statement rule.outside 0 label y) (onto-onto (f .rs) (rowsOf row) z) (f .on (onto (rowsOf row) z) (one-turn (not-end label (t .mode) t (s .going)) x m g));
+        within = l .1;
+        count = a .next ∙ rw (tb, length-append, f .count);
+        small = omega (arith, a .next, a .small, f .small, l .0);
+        long = a .long ∙ f .long;
+        bytes = λ z. a .bytes (omega (arith, a .next, f .long)) ∙ rw (tb, a .next) (behind (table (f .rs)) (table (rowsOf row)) before out n (f .count) (f .bytes (omega (arith, a .next))));
+      }
+
+  pub again : {row : Row} {f : Found} {t′ : State} {b′ : Blocks} → Running label before out t b at n → NextAt label at f → f ≡ Next e to → Moves label t b e row t′ b′ →
+      Added (table (rowsOf row)) n out out′ n′ → Running label before out′ t′ b′ to n′
+  again {row} s x h m a = record { sofar = goes-on row s (found-at x h) (ahead x h) (m .moves) a; sound = m .sound; going = m .going }
+
+-- ---- the ways out
+
+judge : {label : List ℕ} {z : Outcome} → Goes base machine.at-statement rule.outside 0 label z → Judged base label z
+judge g = judged base (gather base g)
+
+refuses : {label before after : List ℕ} {c p : ℕ} {r : Reading} → Goes base machine.at-statement rule.outside 0 label (refused c p) → Refusal c p r → Passed label before after r
+refuses g d = let j = judge g in is-refused j (judged-code j .0) (d .is (judged-code j .0) (judged-code j .1))
+
+module _ {label before out : List ℕ} {t : State} {b : Blocks} {at n : ℕ} {f : Found} where
+  pub early : {p : ℕ} {out′ : List ℕ} → Running label before out t b at n → NextAt label at f → f ≡ Finish p → Passed label before out′ (EndsEarly p)
+  early {p} s x h = refuses (s .sofar .on (refused 10 p) (end-turn (not-end label (t .mode) t (s .going)) (s .sofar .within) (found-at x h))) (record { is = λ y z. refl })
+
+  pub faulty : {c p : ℕ} {r : Reading} {out′ : List ℕ} → Running label before out t b at n → NextAt label at f → f ≡ Fault c p → Refusal c p r → Passed label before out′ r
+  faulty {c} {p} s x h d = refuses (s .sofar .on (refused c p) (fault-turn (not-end label (t .mode) t (s .going)) (found-at x h))) d
+
+  pub refused-there : {e : Element} {to c p : ℕ} {w : Stepped} {r : Reading} {out′ : List ℕ} → Running label before out t b at n → NextAt label at f → f ≡ Next e to →
+      Does label t (stateOf label t) e w → w .row ≡ rows.Stop c p → Refusal c p r → Passed label before out′ r
+  refused-there {e} {c = c} {p = p} s x h m k d =
+      let y = turn-stop m (s .sound) k in
+      refuses (rw (y .1) (s .sofar .on (refused c (placeOf e)) (refuse-turn (not-end label (t .mode) t (s .going)) (found-at x h) (y .0)))) d
+
+  pub accepted-there : {e : Element} {to a n′ : ℕ} {w : Stepped} {out′ : List ℕ} → Running label before out t b at n → NextAt label at f → f ≡ Next e to →
+      Does label t (stateOf label t) e w → w .row ≡ rows.Last a → Added (table (rowsOf (w .row))) n out out′ n′ → Passed label before out′ (Accepted to n′)
+  accepted-there {e} {to} {n′ = n′} {w = w} {out′ = out′} s x h m k d =
+      let y : Sofar label before out′ (w .state) b to n′ = goes-on (w .row) s (found-at x h) (ahead x h) (turn-last m (s .sound) k) d in
+      follows (judge (rw (append-nil (y .rs)) at (y .on (accepted [] to) (now (at-the-end (last-state m k)))))) (y .count) (y .bytes)

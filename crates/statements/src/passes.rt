@@ -1,0 +1,112 @@
+// One pass over the label: each element stepped over, its row added to the table, and the blocks opened and closed as rows ask.
+use crate::Reading;
+use crate::stack::first_state;
+use crate::stack::seen;
+use crate::stack::with_name;
+use blocks::no_blocks;
+use blocks::pop;
+use blocks::push;
+use elements::Found;
+use elements::next;
+use rows::put_row;
+use rows::Row;
+use rows::row_len;
+use steps::step;
+ghost use mathlib.Core.Path.{_≡_};
+ghost use mathlib.Core.List.{_++_};
+ghost use Prim.Native.Nat.{_≤_};
+ghost use lib.ListN.{length, take, drop};
+ghost use Rattle.rules.specs.Table.{table};
+ghost use Rattle.rows.specs.Rows.{rowsOf};
+ghost use Rattle.statements.specs.Passes.{Refusal, Added, Passed};
+
+// A refusal's answer, from its code.
+fn refusal(code: u8, place: usize) -> Reading
+    ensures { λ r. ⌜ Refusal code place r ⌝ }
+{
+    match code {
+        2 => Reading::ForeignByte(place),
+        3 => Reading::LeftOpen(place),
+        4 => Reading::NoForm(place),
+        5 => Reading::PastLimit(place),
+        6 => Reading::Misplaced(place),
+        7 => Reading::OtherName(place),
+        8 => Reading::TooDeep(place),
+        9 => Reading::EndNotSetOff(place),
+        _ => Reading::EndsEarly(place),
+    }
+}
+
+// The row at n, where it fits; the table's length with it either way.
+fn add_row(room: &mut [u8], n: usize, row: Row) -> usize
+    requires { ⌜ n ≤ 1000000 ⌝ }
+    ensures { λ r. ⌜ Added (table (rowsOf row)) n (now (room .entry)) (now (room .exit)) r ⌝ }
+{
+    let k = row_len(row);
+    if room.len() < n {
+        return n + k;
+    }
+    if room.len() - n < k {
+        return n + k;
+    }
+    let m = put_row(&mut room[n..], row);
+    n + m
+}
+
+pub fn copy(from: &[u8], out: &mut [u8], n: usize)
+    requires { ⌜ (n ≤ length (now from)) × (n ≤ length (now out)) ⌝ }
+    ensures { λ _. ⌜ now (out .exit) ≡ take n (now (from .entry)) ++ drop n (now (out .entry)) ⌝ }
+{
+    let mut i = 0;
+    while i < n {
+        out[i] = from[i];
+        i += 1;
+    }
+}
+
+// The table's bytes are in the room where they fit; the room is not spared where they do not, or on refusal.
+pub fn pass(label: &[u8], room: &mut [u8]) -> Reading
+    requires { ⌜ length (now label) ≤ 65535 ⌝ }
+    ensures { λ r. ⌜ Passed (now (label .entry)) (now (room .entry)) (now (room .exit)) r ⌝ }
+{
+    let mut state = first_state();
+    let mut blocks = no_blocks();
+    let mut at = 0;
+    let mut n = 0;
+    loop {
+        match next(label, at) {
+            Found::Finish(p) => {
+                return Reading::EndsEarly(p);
+            }
+            Found::Fault(c, p) => {
+                return refusal(c, p);
+            }
+            Found::Next(e, end) => {
+                let w = step(label, state, e);
+                let row = w.row;
+                n = add_row(room, n, row);
+                at = end;
+                match row {
+                    Row::Stop(c, p) => {
+                        return refusal(c, p);
+                    }
+                    Row::Last(_) => {
+                        return Reading::Accepted(end, n);
+                    }
+                    Row::Open(k, a, b) => {
+                        blocks = push(blocks, k, a, b);
+                        state = seen(w.state, blocks);
+                    }
+                    Row::Close(_) => {
+                        state = with_name(w.state, blocks);
+                        blocks = pop(blocks);
+                        state = seen(state, blocks);
+                    }
+                    _ => {
+                        state = w.state;
+                    }
+                }
+            }
+        }
+    }
+}

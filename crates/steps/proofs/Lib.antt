@@ -1,0 +1,4 @@
+pub mod Offers
+pub mod Ways
+pub mod Starts
+pub mod Closings

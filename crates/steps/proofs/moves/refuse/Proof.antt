@@ -1,0 +1,13 @@
+use borrow.Author.Needs.{needs}
+use Rattle.steps.proofs.moves.refuse.Statement.{statement}
+use Rattle.steps.proofs.moves.refuse.Tie as tie
+
+returns : tie.Need-returns
+returns c = rw (c .start-of .ensures)
+
+pub refuse-spec : {M : Type 1} → statement M
+refuse-spec =
+    tie.close
+    (tie.spec
+    (λ c κs. search needs)
+    returns)

@@ -1,0 +1,222 @@
+-- What the code's states, open blocks and rows mean in the rules' machine, and what a step says.
+use Prim.Native.Nat.{ℕ, suc}
+use mathlib.Core.Path.{_≡_}
+use mathlib.Core.Bool.{Bool, true, false}
+use mathlib.Core.List.{List, [], _∷_}
+use lib.Dec.{leb}
+use Rattle.rules.specs.Data as rule
+use Rattle.rules.specs.Modes.{base}
+use Rattle.rules.specs.Grammar.{strict}
+use Rattle.rules.proofs.Grammar.Machine as machine
+use Rattle.elements.specs.Next.{nameAt, span, placedOf, placeOf}
+use Rattle.elements.specs.declared.Element.{Element}
+use Rattle.elements.specs.declared.Element.the-variants.{Name}
+use Rattle.rows.specs.Rows.{kindOf, opOf, rowsOf}
+use Rattle.rows.specs.declared.Kind as kind
+use Rattle.rows.specs.declared.Kind.the-variants as kinds
+use Rattle.rows.specs.declared.Op as op
+use Rattle.rows.specs.declared.Row.{Row}
+use Rattle.rows.specs.declared.Row.the-variants as rows
+use Rattle.blocks.specs.Stack.{Block, block, many, topOf, rest}
+use Rattle.blocks.specs.declared.Top as top
+use Rattle.blocks.specs.declared.Top.the-variants as tops
+use Rattle.steps.specs.declared.Nest as nest
+use Rattle.steps.specs.declared.Nest.the-variants as nests
+use Rattle.steps.specs.declared.Mode.{Mode}
+use Rattle.steps.specs.declared.Mode.the-variants as modes
+use Rattle.steps.specs.declared.State.{State}
+use Rattle.steps.specs.declared.Stepped.{Stepped}
+
+-- the numbers of the words that open a block
+abbrev pub openCode : kind.Kind → ℕ
+openCode kinds.Object = 1
+openCode kinds.Group = 3
+
+abbrev pub placeIn : nest.Nest → machine.Place
+placeIn nests.Alone = machine.alone
+placeIn nests.Sequence = machine.within machine.in-sequence
+placeIn nests.Row = machine.within machine.in-row
+placeIn nests.Set = machine.within machine.in-set
+
+-- ---- the state
+
+abbrev pub stateIn : List ℕ → Mode → State → machine.State
+stateIn label modes.Statement t = machine.at-semicolon
+stateIn label modes.Equals t = machine.at-equals
+stateIn label modes.Pointer t = machine.at-pointer
+stateIn label modes.BlockEquals t = machine.at-opener (kindOf (t .kind))
+stateIn label modes.BlockName t = machine.at-opened (kindOf (t .kind))
+stateIn label modes.Closed t = machine.at-closer (nameAt label (t .from) (t .upto))
+stateIn label modes.ClosingName t = machine.at-closed (nameAt label (t .from) (t .upto))
+stateIn label modes.Value t = machine.at-scalar (placeIn (t .nest)) machine.any-value
+stateIn label modes.Member t = machine.at-scalar (placeIn (t .nest)) machine.no-else
+stateIn label modes.FirstMember t = machine.at-scalar (placeIn (t .nest)) machine.a-row
+stateIn label modes.FirstOfSet t = machine.at-scalar (placeIn (t .nest)) machine.a-set-end
+stateIn label modes.AfterNumber t = machine.at-number (placeIn (t .nest))
+stateIn label modes.After t = machine.after (placeIn (t .nest))
+stateIn label modes.UnitName t = machine.at-unit (placeIn (t .nest)) (opOf (t .op))
+stateIn label modes.AfterUnit t = machine.at-power (placeIn (t .nest)) (opOf (t .op)) (span (t .from) (t .upto))
+stateIn label modes.Exponent t = machine.at-exponent (placeIn (t .nest)) (opOf (t .op)) (span (t .from) (t .upto))
+stateIn label modes.AfterExponent t = machine.at-factor (placeIn (t .nest))
+stateIn label modes.AfterRow t = machine.at-row
+stateIn label modes.Ended t = machine.at-end
+
+abbrev pub stateOf : List ℕ → State → machine.State
+stateOf label t = stateIn label (t .mode) t
+
+-- ---- the open blocks, the innermost first: kind, start and end of the name
+
+abbrev pub opensOf : List ℕ → List Block → rule.Opens
+opensOf label [] = rule.outside
+opensOf label (block k a b ∷ bs) = rule.inside (kindOf k) (nameAt label a b) (opensOf label bs)
+
+-- what the state knows of them
+pub record Sees (t : State) (bs : List Block) : Type 0 where
+  pub top : t .top ≡ topOf bs
+  pub full : t .full ≡ leb 80 (many bs)
+
+-- ---- what a step says
+
+pub data Said : Type 0 where
+  stops : ℕ → ℕ → Said
+  goes : machine.State → rule.Opens → List rule.Row → Said
+
+-- the machine's answer, with the refused element's place
+abbrev pub placed : ℕ → machine.Answer → Said
+placed p (machine.refuses c) = stops c p
+placed p (machine.goes q o r) = goes q o r
+
+-- the state with the innermost block's name in hand
+abbrev pub closing : List Block → State → State
+closing [] t = t
+closing (block k a b ∷ bs) t = record { mode = t .mode; nest = t .nest; kind = t .kind; op = t .op; top = t .top; full = t .full; from = a; upto = b }
+
+-- what a row asks of the loop: nothing, a block opened or closed, an end, or a refusal
+pub data Effect : Type 0 where
+  stays closes ends : Effect
+  opens : kind.Kind → ℕ → ℕ → Effect
+  halts : ℕ → ℕ → Effect
+
+abbrev pub effect : Row → Effect
+effect rows.Nothing = stays
+effect (rows.Attribute a b) = stays
+effect (rows.Pointer a b) = stays
+effect (rows.Open k a b) = opens k a b
+effect (rows.Close k) = closes
+effect (rows.Integer m n) = stays
+effect (rows.Float x) = stays
+effect (rows.Time x) = stays
+effect (rows.Text a b) = stays
+effect (rows.Symbol a b) = stays
+effect (rows.Unit p a b m n) = stays
+effect rows.Sequence = stays
+effect rows.SequenceEnd = stays
+effect rows.Set = stays
+effect rows.SetEnd = stays
+effect (rows.Last a) = ends
+effect (rows.Stop c p) = halts c p
+
+-- what a step says before its row is seen to: the blocks are still those before it
+abbrev pub saidOf : List ℕ → List Block → State → List rule.Row → Effect → Said
+saidOf label bs t l stays = goes (stateOf label t) (opensOf label bs) l
+saidOf label bs t l (opens k a b) = goes (stateOf label t) (opensOf label (block k a b ∷ bs)) l
+saidOf label bs t l closes = goes (stateOf label (closing bs t)) (opensOf label (rest bs)) l
+saidOf label bs t l ends = goes (stateOf label t) (opensOf label bs) l
+saidOf label bs t l (halts c p) = stops c p
+
+abbrev pub said : List ℕ → List Block → State → Row → Said
+said label bs t row = saidOf label bs t (rowsOf row) (effect row)
+
+-- while a block is being opened there is room for it
+abbrev pub roomIn : Mode → Bool → Type 0
+roomIn modes.BlockEquals full = full ≡ false
+roomIn modes.BlockName full = full ≡ false
+roomIn modes.Statement full = Unit {0}
+roomIn modes.Equals full = Unit {0}
+roomIn modes.Pointer full = Unit {0}
+roomIn modes.Closed full = Unit {0}
+roomIn modes.ClosingName full = Unit {0}
+roomIn modes.Value full = Unit {0}
+roomIn modes.Member full = Unit {0}
+roomIn modes.FirstMember full = Unit {0}
+roomIn modes.FirstOfSet full = Unit {0}
+roomIn modes.AfterNumber full = Unit {0}
+roomIn modes.After full = Unit {0}
+roomIn modes.UnitName full = Unit {0}
+roomIn modes.AfterUnit full = Unit {0}
+roomIn modes.Exponent full = Unit {0}
+roomIn modes.AfterExponent full = Unit {0}
+roomIn modes.AfterRow full = Unit {0}
+roomIn modes.Ended full = Unit {0}
+
+abbrev pub Room : State → Type 0
+Room t = roomIn (t .mode) (t .full)
+
+abbrev pub isEnded : Mode → Bool
+isEnded modes.Statement = false
+isEnded modes.Equals = false
+isEnded modes.Pointer = false
+isEnded modes.BlockEquals = false
+isEnded modes.BlockName = false
+isEnded modes.Closed = false
+isEnded modes.ClosingName = false
+isEnded modes.Value = false
+isEnded modes.Member = false
+isEnded modes.FirstMember = false
+isEnded modes.FirstOfSet = false
+isEnded modes.AfterNumber = false
+isEnded modes.After = false
+isEnded modes.UnitName = false
+isEnded modes.AfterUnit = false
+isEnded modes.Exponent = false
+isEnded modes.AfterExponent = false
+isEnded modes.AfterRow = false
+isEnded modes.Ended = true
+
+-- a block is opened by the name that is the element, where there is room, and a statement follows it; the last row stands outside all blocks,
+-- and END comes with no other row
+abbrev pub Settles : State → Element → Mode → Effect → Type 0
+Settles t e m stays = isEnded m ≡ false
+Settles t e m (opens k a b) = (e ≡ Name a b) × (Room t → t .full ≡ false) × (m ≡ modes.Statement)
+Settles t e m closes = m ≡ modes.Closed
+Settles t e m ends = (m ≡ modes.Ended) × (t .top ≡ tops.Outside)
+Settles t e m (halts c p) = Unit {0}
+
+-- What the state knows of the blocks is left as it was: whoever opens or closes one sees to that.
+pub record Kept (t : State) (e : Element) (r : Stepped) : Type 0 where
+  pub top : r .state .top ≡ t .top
+  pub full : r .state .full ≡ t .full
+  pub room : Room t → Room (r .state)
+  pub settles : Settles t e (r .state .mode) (effect (r .row))
+
+-- The step that gave r, in the state t over the element e, is the machine's step in the state q, whatever the open blocks are that t sees.
+pub record Does (label : List ℕ) (t : State) (q : machine.State) (e : Element) (r : Stepped) : Type 0 where
+  pub kept : Kept t e r
+  pub does : (bs : List Block) → Sees t bs →
+      said label bs (r .state) (r .row) ≡ placed (placeOf e) (machine.step base strict q (opensOf label bs) (placedOf label e))
+
+-- ---- the answers that the code makes
+
+abbrev pub moved : State → Mode → Row → Stepped
+moved t m row = record { state = record { mode = m; nest = t .nest; kind = t .kind; op = t .op; top = t .top; full = t .full; from = t .from; upto = t .upto }; row = row }
+
+abbrev pub within : State → Mode → nest.Nest → Row → Stepped
+within t m n row = record { state = record { mode = m; nest = n; kind = t .kind; op = t .op; top = t .top; full = t .full; from = t .from; upto = t .upto }; row = row }
+
+abbrev pub unitNext : State → op.Op → Row → Stepped
+unitNext t p row = record { state = record { mode = modes.UnitName; nest = t .nest; kind = t .kind; op = p; top = t .top; full = t .full; from = t .from; upto = t .upto }; row = row }
+
+abbrev pub unitNamed : State → ℕ → ℕ → Stepped
+unitNamed t a b = record { state = record { mode = modes.AfterUnit; nest = t .nest; kind = t .kind; op = t .op; top = t .top; full = t .full; from = a; upto = b }; row = rows.Nothing }
+
+abbrev pub openingOf : State → kind.Kind → Stepped
+openingOf t k = record { state = record { mode = modes.BlockEquals; nest = t .nest; kind = k; op = t .op; top = t .top; full = t .full; from = t .from; upto = t .upto }; row = rows.Nothing }
+
+abbrev pub halted : State → ℕ → Element → Stepped
+halted t c e = record { state = t; row = rows.Stop c (placeOf e) }
+
+-- the state that a reading begins with
+pub record Begins (t : State) : Type 0 where
+  pub mode : t .mode ≡ modes.Statement
+  pub top : t .top ≡ tops.Outside
+  pub full : t .full ≡ false

@@ -1,0 +1,6 @@
+pub mod Octets
+pub mod RowsRead
+pub mod Worths
+pub mod Held
+pub mod Awaited
+pub mod Checking

@@ -1,0 +1,78 @@
+-- Numbers out of a body's bytes, as the rules' reader of rows takes them, and two's complement.
+use Prim.Native.Nat.{ℕ, zero, suc, _+_, _-_, _*_, _≤_, _<_}
+use mathlib.Core.Bool.{Bool, true, false, cond}
+use mathlib.Core.Path.{_≡_, refl, ap, _∙_}
+use mathlib.Core.List.{List, [], _∷_, _++_}
+use native.Mathlib.Nat.{add-assoc, zero-add}
+use native.Mathlib.Omega.{arith}
+use borrow.Author.Needs.{needs}
+use borrow.Author.Tests.{lt-ltb, le-leb, lt-leb, leb-true, leb-false}
+use lib.Dec.{ltb, leb}
+use lib.ListN.{length, drop}
+use Rattle.rules.proofs.Tables.Decode.{Decoded, nothing, field, byte}
+use Rattle.classes.specs.Places.{ByteAt}
+use Rattle.classes.proofs.Runs.{unroll}
+use Rattle.words.specs.Says.{whole}
+use Rattle.table.specs.Decoding.{Field, Byte}
+
+-- ---- fields
+
+pub one-byte : (a : ℕ) (b : List ℕ) (i x : ℕ) → ByteAt b i x → x < 256 → Field 1 a b i (a * 256 + x)
+unfolding field
+one-byte a b i x h l = record { then = λ k rest f. go k rest f }
+  where
+    go : i + 1 ≤ length b → (rest : List ℕ) (f : ℕ → List ℕ → Decoded) → field 1 a (drop i b ++ rest) f ≡ f (a * 256 + x) (drop (i + 1) b ++ rest)
+    go k rest f = rw (unroll b i (omega arith), ← h .is, lt-ltb x 256 l)
+
+pub a-byte : (b : List ℕ) (i x : ℕ) → ByteAt b i x → Byte b i x
+a-byte b i x h = record { then = λ k rest f. go k rest f }
+  where
+    go : i + 1 ≤ length b → (rest : List ℕ) (f : ℕ → List ℕ → Decoded) → byte (drop i b ++ rest) f ≡ f x (drop (i + 1) b ++ rest)
+    go k rest f = rw (unroll b i (omega arith), ← h .is)
+
+-- a number in two parts
+field-more : (k j a : ℕ) (s : List ℕ) (f : ℕ → List ℕ → Decoded) → field (k + j) a s f ≡ field k a s (λ v t. field j v t f)
+unfolding field
+field-more zero j a s f = ap (λ (n : ℕ). field n a s f) (zero-add j)
+field-more (suc k) j a [] f = let e : suc k + j ≡ suc (k + j) = omega arith in ap (λ (n : ℕ). field n a [] f) e
+field-more (suc k) j a (x ∷ s) f =
+    let e : suc k + j ≡ suc (k + j) = omega arith in
+    ap (λ (n : ℕ). field n a (x ∷ s) f) e ∙ ap (λ (d : Decoded). cond (ltb x 256) d nothing) (field-more k j (a * 256 + x) s f)
+
+together : (k j a : ℕ) (b : List ℕ) (i h r : ℕ) → Field k a b i h → Field j h b (i + k) r → Field (k + j) a b i r
+together k j a b i h r p q = record {
+  then = λ l rest f. field-more k j a (drop i b ++ rest) f ∙ p .then (omega arith) rest (λ v t. field j v t f) ∙ q .then (omega arith) rest f
+      ∙ ap (λ (n : ℕ). f r (drop n b ++ rest)) (add-assoc i k j);
+}
+
+pub two-bytes : (a : ℕ) (b : List ℕ) (i h r : ℕ) → Field 1 a b i h → Field 1 h b (i + 1) r → Field 2 a b i r
+two-bytes = together 1 1
+
+pub four-bytes : (a : ℕ) (b : List ℕ) (i h r : ℕ) → Field 2 a b i h → Field 2 h b (i + 2) r → Field 4 a b i r
+four-bytes = together 2 2
+
+pub eight-bytes : (a : ℕ) (b : List ℕ) (i h r : ℕ) → Field 4 a b i h → Field 4 h b (i + 4) r → Field 8 a b i r
+eight-bytes = together 4 4
+
+-- ---- two's complement
+
+pub size-minus : (v half : ℕ) → half ≤ v → v < half + half → half - (v - half) ≡ cond (leb half v) (half + half - v) v
+size-minus v half h l = rw (le-leb half v h) (omega arith)
+
+pub size-plain : (v half : ℕ) → v < half → v ≡ cond (leb half v) (half + half - v) v
+size-plain v half h = rw (lt-leb half v h)
+
+-- a sign and a size that the code found so are the number
+pub signs : (K half v : ℕ) (m : Bool) (z : ℕ) → K ≡ half + half → m ≡ leb half v → z ≡ cond (leb half v) (half + half - v) v →
+    cond (leb K (2 * v)) (record { minus = true; size = K - v }) (record { minus = false; size = v }) ≡ whole m z
+signs K half v m z e f g = go (leb half v) refl
+  where
+    go : (t : Bool) → leb half v ≡ t → cond (leb K (2 * v)) (record { minus = true; size = K - v }) (record { minus = false; size = v }) ≡ whole m z
+    go true h =
+        let a : leb K (2 * v) ≡ true = le-leb K (2 * v) (omega (arith, leb-true half v h)) in
+        rw (a, f, g, h, e)
+    go false h =
+        let a : leb K (2 * v) ≡ false = lt-leb K (2 * v) (omega (arith, leb-false half v h)) in
+        rw (a, f, g, h)
+
+pub ruleset numbers = (one-byte, a-byte, two-bytes, four-bytes, eight-bytes, size-minus, size-plain, needs)

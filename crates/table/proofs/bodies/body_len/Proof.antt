@@ -1,0 +1,20 @@
+use Rattle.table.proofs.RowsRead.{lengths}
+use Rattle.table.proofs.bodies.body_len.Statement.{statement}
+use Rattle.table.proofs.bodies.body_len.Tie as tie
+
+pub body-len-spec : {M : Type 1} → statement M
+body-len-spec =
+    tie.close
+    (tie.spec
+    (λ c. search lengths)
+    (λ c. search lengths)
+    (λ c. search lengths)
+    (λ c. search lengths)
+    (λ c. search lengths)
+    (λ c. search lengths)
+    (λ c. search lengths)
+    (λ c. search lengths)
+    (λ c. search lengths)
+    (λ c. search lengths)
+    (λ c. search lengths)
+    (λ c. search lengths))

@@ -1,0 +1,17 @@
+use Rattle.table.proofs.RowsRead.{bodies}
+use borrow.Author.Needs.{needs}
+use Rattle.table.proofs.bodies.float.Statement.{statement}
+use Rattle.table.proofs.bodies.float.Tie as tie
+
+pub float-spec : {M : Type 1} → statement M
+float-spec =
+    tie.close
+    (tie.spec
+    (λ c κs. search bodies)
+    (λ c κs. search bodies)
+    (λ c κs. search bodies)
+    (λ c κs. search bodies)
+    (λ c κs. search bodies)
+    (λ c κs. search bodies)
+    (λ c. search needs)
+    (λ c. search bodies))

@@ -1,0 +1,12 @@
+use Rattle.table.proofs.RowsRead.{bodies}
+use Rattle.table.proofs.bodies.integer.Statement.{statement}
+use Rattle.table.proofs.bodies.integer.Tie as tie
+
+pub integer-spec : {M : Type 1} → statement M
+integer-spec =
+    tie.close
+    (tie.spec
+    (λ c κs. search bodies)
+    (λ c κs. search bodies)
+    (λ c κs. search bodies)
+    (λ c. search bodies))

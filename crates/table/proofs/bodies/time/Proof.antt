@@ -1,0 +1,24 @@
+use Rattle.table.proofs.RowsRead.{bodies}
+use borrow.Author.Needs.{needs}
+use Rattle.table.proofs.bodies.time.Statement.{statement}
+use Rattle.table.proofs.bodies.time.Tie as tie
+
+pub time-spec : {M : Type 1} → statement M
+time-spec =
+    tie.close
+    (tie.spec
+    (λ c κs. search bodies)
+    (λ c κs. search bodies)
+    (λ c κs. search bodies)
+    (λ c κs. search bodies)
+    (λ c. search needs)
+    (λ c κs. search bodies)
+    (λ c κs. search bodies)
+    (λ c κs. search bodies)
+    (λ c κs. search bodies)
+    (λ c κs. search bodies)
+    (λ c. search needs)
+    (λ c κs. search bodies)
+    (λ c κs. search bodies)
+    (λ c. search needs)
+    (λ c. search bodies))

@@ -1,0 +1,16 @@
+use Rattle.table.proofs.RowsRead.{bodies}
+use Rattle.table.proofs.bodies.unit.Statement.{statement}
+use Rattle.table.proofs.bodies.unit.Tie as tie
+
+pub unit-spec : {M : Type 1} → statement M
+unit-spec =
+    tie.close
+    (tie.spec
+    (λ c κs. search bodies)
+    (λ c κs. search bodies)
+    (λ c κs. search bodies)
+    (λ c κs. search bodies)
+    (λ c. search bodies)
+    (λ c. search bodies)
+    (λ c. search bodies)
+    (λ c. search bodies))

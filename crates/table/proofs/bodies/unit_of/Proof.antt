@@ -1,0 +1,14 @@
+use Rattle.table.proofs.RowsRead.{bodies}
+use Rattle.table.proofs.bodies.unit_of.Statement.{statement}
+use Rattle.table.proofs.bodies.unit_of.Tie as tie
+
+pub unit-of-spec : {M : Type 1} → statement M
+unit-of-spec =
+    tie.close
+    (tie.spec
+    (λ c κs. search bodies)
+    (λ c κs. search bodies)
+    (λ c κs. search bodies)
+    (λ c κs. search bodies)
+    (λ c κs. search bodies)
+    (λ c. search bodies))

@@ -1,0 +1,13 @@
+use Rattle.table.proofs.Octets.{numbers}
+use borrow.Author.Needs.{needs}
+use Rattle.table.proofs.fields.eight_at.Statement.{statement}
+use Rattle.table.proofs.fields.eight_at.Tie as tie
+
+pub eight-at-spec : {M : Type 1} → statement M
+eight-at-spec =
+    tie.close
+    (tie.spec
+    (λ c κs. search numbers)
+    (λ c. search needs)
+    (λ c κs. search numbers)
+    (λ c. search numbers))

@@ -1,0 +1,10 @@
+use Rattle.table.proofs.Octets.{numbers}
+use Rattle.table.proofs.fields.octet.Statement.{statement}
+use Rattle.table.proofs.fields.octet.Tie as tie
+
+pub octet-spec : {M : Type 1} → statement M
+octet-spec =
+    tie.close
+    (tie.spec
+    (λ c κs. search numbers)
+    (λ c. search numbers))

@@ -1,0 +1,10 @@
+use Rattle.table.proofs.Octets.{numbers}
+use Rattle.table.proofs.fields.one_at.Statement.{statement}
+use Rattle.table.proofs.fields.one_at.Tie as tie
+
+pub one-at-spec : {M : Type 1} → statement M
+one-at-spec =
+    tie.close
+    (tie.spec
+    (λ c κs. search numbers)
+    (λ c. search numbers))

@@ -1,0 +1,4 @@
+pub mod Depth
+pub mod Nesting
+pub mod Passing
+pub mod Rooms

@@ -1,0 +1,67 @@
+// One pass over the table's rows: each written into the room that is left after the row before it.
+use blocks::Blocks;
+use blocks::name_end;
+use blocks::name_start;
+use blocks::no_blocks;
+use blocks::pop;
+use blocks::push;
+use parts::least;
+use parts::put_bytes;
+use printing::Prior;
+use printing::prior_after;
+use printing::put_row;
+use rows::Row;
+use table::Checked;
+use table::row_at;
+ghost use Prim.Native.Nat.{_≤_};
+ghost use lib.ListN.{length};
+ghost use Rattle.table.specs.Judging.{Judges};
+ghost use Rattle.writer.specs.Passing.{Nested, Passed};
+
+// The blocks that are open after a row.
+fn nested(b: Blocks, row: Row) -> Blocks
+    requires { ⌜ b .depth ≤ 80 ⌝ }
+    ensures { λ r. ⌜ Nested b row r ⌝ }
+{
+    match row {
+        Row::Open(k, x, y) => {
+            if 80 <= b.depth {
+                return b;
+            }
+            if 65535 < x {
+                return b;
+            }
+            if 65535 < y {
+                return b;
+            }
+            push(b, k, x, y)
+        }
+        Row::Close(_) => pop(b),
+        _ => b,
+    }
+}
+
+// The label's bytes are in the room where they fit; the count stops growing once it is over 65,535.
+pub fn pass(label: &[u8], lent: &[u8], out: &mut [u8]) -> usize
+    requires { ⌜ (length (now label) ≤ 65535) × Judges (now label) (now lent) Checked.Proper ⌝ }
+    ensures { λ r. ⌜ Passed (now (label .entry)) (now (lent .entry)) (now (out .entry)) (now (out .exit)) r ⌝ }
+{
+    let mut q = Prior::Start;
+    let mut b = no_blocks();
+    let mut at = 0;
+    let mut n = 0;
+    while at < lent.len() {
+        let g = row_at(lent, at);
+        let row = g.row;
+        let k = least(n, out.len());
+        n += put_row(&mut out[k..], label, q, b.depth, name_start(b), name_end(b), row);
+        if 65535 < n {
+            return n;
+        }
+        q = prior_after(q, row);
+        b = nested(b, row);
+        at = g.next;
+    }
+    let k = least(n, out.len());
+    n + put_bytes(&mut out[k..], b"\r\n")
+}

@@ -1,0 +1,146 @@
+/* Reader and writer of ODL 2.1 camera labels: the C face of libodl.a.
+ *
+ * A label is read into a table: a run of rows, each one byte of kind and a
+ * body whose length the kind fixes. A table is written out as a canonical
+ * label. The other calls ask about single rows.
+ *
+ * Buffers. Every buffer is a pointer and its length in bytes, and the pointer
+ * may be NULL where the length is 0. Any bytes are legal in every buffer: what
+ * is wrong with them is answered by a code. Nothing is allocated and nothing
+ * is kept after the call. `const` buffers are only read. The lent room must
+ * not overlap any other buffer. A result is written whole or not at all: on
+ * any code but 0 the lent room is untouched, and on 0 it is untouched beyond
+ * the reported length. The pointers to results must not be NULL; every call
+ * sets all of them.
+ *
+ * Calls share no state and may run at the same time in many threads, each
+ * with its own room. A call needs no more than 64 KiB of stack.
+ */
+#ifndef ODL_H
+#define ODL_H
+
+#include <stddef.h>
+#include <stdint.h>
+
+#ifdef __cplusplus
+extern "C" {
+#endif
+
+/* No label, read or written, is longer than this many bytes. */
+#define ODL_LONGEST_LABEL 65535
+
+/* What a call answers, and the place that comes with it. */
+enum odl_code {
+    ODL_ACCEPTED = 0,         /* past END; for odl_write the written length */
+    ODL_LABEL_TOO_LONG = 1,   /* label over 65,535 bytes: 65535 */
+    ODL_BAD_BYTE = 2,         /* a byte that begins no element: that byte; or is
+                                 not allowed in its text, symbol or comment:
+                                 the start of that */
+    ODL_LEFT_OPEN = 3,        /* text, symbol or comment not closed: its start */
+    ODL_NO_FORM = 4,          /* a word of no form, an empty symbol: its start */
+    ODL_PAST_LIMIT = 5,       /* a number, radix, digit, length, date or unit
+                                 exponent past its limit: its start */
+    ODL_MISPLACED = 6,        /* an element that cannot stand there: its start */
+    ODL_OTHER_NAME = 7,       /* closing name not the opening one: the name */
+    ODL_TOO_DEEP = 8,         /* OBJECT or GROUP at depth 80: the word */
+    ODL_END_NOT_SET_OFF = 9,  /* END followed by no spacing, line end or end of
+                                 the input: the word */
+    ODL_ENDS_EARLY = 10,      /* the input ends early: its length */
+    ODL_ROOM_TOO_SHORT = 11,  /* lent room too short: as for 0; the length is
+                                 the one needed */
+    ODL_IMPROPER_TABLE = 12,  /* table not proper over this label: offset of the
+                                 first wrong row, or the table's length if rows
+                                 are lacking */
+    ODL_WRITTEN_TOO_LONG = 13, /* written label over 65,535 bytes: 65535 */
+    ODL_NAME_ABSENT = 14,     /* no attribute of that name: 0 */
+    ODL_NO_SUCH_ROW = 15      /* not the offset of a row that is asked for: 0 */
+};
+
+/* Kinds of row, with the body that follows the byte of kind. Numbers stand
+ * high byte first, signed ones in two's complement. A span is the start and
+ * the end of a stretch of the label, two bytes each, quotes left out. */
+enum odl_row {
+    ODL_ATTRIBUTE = 1,    /* span of the name: 4 bytes; its value follows */
+    ODL_POINTER = 2,      /* span of the name: 4; its value follows */
+    ODL_OBJECT = 3,       /* span of the name: 4 */
+    ODL_END_OBJECT = 4,   /* nothing */
+    ODL_GROUP = 5,        /* span of the name: 4 */
+    ODL_END_GROUP = 6,    /* nothing */
+    ODL_INTEGER = 10,     /* signed number: 8 */
+    ODL_REAL = 11,        /* signed number 8, signed power of ten 2 */
+    ODL_TIME = 12,        /* parts 1 (see below), year 2, month, day, hour,
+                             minute, second 1 each, nanoseconds 4, signed
+                             offset from UTC in minutes 2: 14 */
+    ODL_TEXT = 13,        /* span: 4; odl_text reassembles it */
+    ODL_SYMBOL = 14,      /* span: 4 */
+    ODL_UNIT = 15,        /* joint 1 (see below), span of the name 4, signed
+                             exponent 1; stands after its number */
+    ODL_SEQUENCE = 20,    /* nothing; members follow */
+    ODL_END_SEQUENCE = 21, /* nothing */
+    ODL_SET = 22,         /* nothing; members follow */
+    ODL_END_SET = 23,     /* nothing */
+    ODL_LAST = 99         /* offset just past END: 2; the last row */
+};
+
+/* Parts of a date or time. A part that is absent is all 0. */
+enum odl_parts { ODL_DATE_ONLY = 1, ODL_TIME_ONLY = 2, ODL_DATE_AND_TIME = 3 };
+
+/* How a unit is joined to those before it. */
+enum odl_joint { ODL_FIRST = 0, ODL_TIMES = 1, ODL_DIVIDED = 2 };
+
+/* Reads a label into a table. Codes 0 to 11. On 0 the table stands in the
+ * first *length bytes of the room and *place is the offset just past END;
+ * bytes after END are not looked at, but for the first. On 11 *length is the
+ * room needed: call once with length 0 to learn it, or lend five times the
+ * label's length, which is always enough. On all other codes *length is 0 and
+ * *place is where the first fault is. */
+uint8_t odl_read(const uint8_t *label, size_t label_len,
+                 uint8_t *table, size_t table_len,
+                 size_t *place, size_t *length);
+
+/* Writes a table out as a canonical label: one form for each meaning, lines
+ * ended by CR LF. The label is the one whose bytes the table's spans show; the
+ * table may come from odl_read or from elsewhere, since it is judged first.
+ * Codes 0, 1, 11, 12, 13. On 0 and 11 *length and *place are both the length
+ * of the written label, else *length is 0. */
+uint8_t odl_write(const uint8_t *label, size_t label_len,
+                  const uint8_t *table, size_t table_len,
+                  uint8_t *out, size_t out_len,
+                  size_t *place, size_t *length);
+
+/* Reassembles the text of the row at offset `row` of the table: lines are
+ * joined, a hyphen at a line's end goes with it, control bytes are dropped.
+ * Codes 0, 1, 11, 12, 15. On 0 the text stands in the first *length bytes of
+ * the room; on 11 *length is the room needed, which is never more than the
+ * span; else it is 0. *place is 0 but for codes 1 and 12. */
+uint8_t odl_text(const uint8_t *label, size_t label_len,
+                 const uint8_t *table, size_t table_len,
+                 size_t row,
+                 uint8_t *out, size_t out_len,
+                 size_t *place, size_t *length);
+
+/* Looks for an attribute by its name, case folded, from the row at offset
+ * `row` on. That row must be one of a statement (kinds 1 to 6) or the last
+ * one. The search stays in the block that the row stands in and passes over
+ * blocks within it. Codes 0, 1, 12, 14, 15. On 0 *at is the offset of the
+ * attribute's row, else 0. *place is 0 but for codes 1 and 12. */
+uint8_t odl_find(const uint8_t *label, size_t label_len,
+                 const uint8_t *table, size_t table_len,
+                 const uint8_t *name, size_t name_len,
+                 size_t row,
+                 size_t *place, size_t *at);
+
+/* Gives the stretch of the label that is the name of the row at offset `row`:
+ * of an attribute, a pointer, an OBJECT, a GROUP, a symbol or a unit. It runs
+ * from *start to just before *end. Where there is no such row, or label or
+ * table would be refused, both are 0. A name is never empty. */
+void odl_name(const uint8_t *label, size_t label_len,
+              const uint8_t *table, size_t table_len,
+              size_t row,
+              size_t *start, size_t *end);
+
+#ifdef __cplusplus
+}
+#endif
+
+#endif

@@ -1,0 +1,212 @@
+//! Random cases, and runs of many of them.
+
+use crate::{Call, Case};
+use odl_model::random::{self, Random, TableCase};
+use std::collections::BTreeMap;
+use std::sync::atomic::{AtomicBool, AtomicU64, Ordering};
+use std::time::Instant;
+
+/// How often each code was answered by each call. A name that is there counts
+/// as 0, none as 15.
+pub type Tally = BTreeMap<(Call, u8), u64>;
+
+/// The case of this number in the run of this seed.
+pub fn case(seed: u64, number: u64) -> Case {
+    let mut random = Random::new(
+        seed.wrapping_mul(0xD6E8_FEB8_6659_FD93)
+            .wrapping_add(number),
+    );
+    // The first numbers of neighbouring seeds are still alike.
+    for _ in 0..4 {
+        random.bits();
+    }
+    let mut case = match random.below(20) {
+        0..=7 => Case::read(&random::label(&mut random), 0),
+        8 => at_the_written_limit(&mut random),
+        9..=12 => over_table(&mut random, Call::Write),
+        13..=15 => over_table(&mut random, Call::Text),
+        16..=18 => over_table(&mut random, Call::Find),
+        _ => over_table(&mut random, Call::Name),
+    };
+    case.room = room(&mut random, case.room_needed());
+    case
+}
+
+fn room(random: &mut Random, needed: usize) -> usize {
+    match random.below(8) {
+        0 => 0,
+        1 => needed.saturating_sub(1),
+        2 => random.below(needed),
+        3 => needed,
+        4 => needed + 1,
+        _ => needed + random.below(100),
+    }
+}
+
+fn over_table(random: &mut Random, call: Call) -> Case {
+    let TableCase {
+        mut label,
+        mut table,
+        mut row,
+        mut name,
+    } = random::table_case(random);
+    match random.below(150) {
+        0 => row = repeated(random, &mut table, row),
+        1 => label.resize(odl_model::LONGEST_LABEL + 1, b' '),
+        2..=5 => table = bytes(random, 60),
+        6 => table.clear(),
+        7 => label.clear(),
+        _ => {}
+    }
+    if random.one_in(12) {
+        row = odd_row(random, row, table.len());
+    }
+    if random.one_in(6) {
+        name = odd_name(random, name);
+    }
+    Case {
+        call,
+        label,
+        table,
+        name,
+        row,
+        room: 0,
+    }
+}
+
+/// Repeats the rows of a table until it is longer than any label, and gives
+/// the row's offset in one of the copies.
+fn repeated(random: &mut Random, table: &mut Vec<u8>, row: usize) -> usize {
+    const LAST_ROW: usize = 3;
+    let Some(length) = table.len().checked_sub(LAST_ROW).filter(|&n| n > 0) else {
+        return row;
+    };
+    let copies = 1 + (66_000 + random.below(30_000)) / length;
+    let last = table.split_off(length);
+    *table = table.repeat(copies);
+    table.extend(last);
+    row + length * random.below(copies)
+}
+
+fn odd_row(random: &mut Random, row: usize, table_length: usize) -> usize {
+    match random.below(8) {
+        0 => usize::MAX,
+        1 => usize::MAX - random.below(table_length + 2),
+        2 => row.wrapping_add(1 << 16),
+        3 => row.wrapping_add(1 << 32),
+        4 => row.wrapping_add(1 << 63),
+        5 => table_length,
+        6 => row + 1,
+        _ => random.bits() as usize,
+    }
+}
+
+fn odd_name(random: &mut Random, mut name: Vec<u8>) -> Vec<u8> {
+    let at = random.below(name.len());
+    match random.below(5) {
+        0 => bytes(random, 80),
+        1 => {
+            name.push(random.bits() as u8);
+            name
+        }
+        2 => {
+            name.pop();
+            name
+        }
+        // The bit that tells the cases of a letter, in any byte.
+        3 if !name.is_empty() => {
+            name[at] ^= 0x20;
+            name
+        }
+        _ if !name.is_empty() => {
+            name[at] ^= 1 << random.below(8);
+            name
+        }
+        _ => name,
+    }
+}
+
+fn bytes(random: &mut Random, bound: usize) -> Vec<u8> {
+    (0..random.below(bound))
+        .map(|_| random.bits() as u8)
+        .collect()
+}
+
+/// A table of texts that comes to about 65,535 bytes when written.
+fn at_the_written_limit(random: &mut Random) -> Case {
+    const LINE: usize = "A = \"\"\r\n".len();
+    const END: usize = "END\r\n".len();
+    let long = 200 + random.below(4_000);
+    let wanted = odl_model::LONGEST_LABEL - 2 + random.below(5);
+    let rest = wanted - END - LINE;
+    let lines = rest / (long + LINE);
+    let short = rest % (long + LINE);
+    let mut label = vec![b'A'];
+    label.resize(1 + long + LINE, b'x');
+    let mut table = Vec::new();
+    for length in std::iter::repeat_n(long, lines).chain([short]) {
+        table.extend([1, 0, 0, 0, 1, 13, 0, 1]);
+        table.extend((1 + length as u16).to_be_bytes());
+    }
+    table.extend([99, 0, 0]);
+    Case::over(Call::Write, &label, &table)
+}
+
+/// When a run ends.
+#[derive(Debug, Clone, Copy)]
+pub enum Until {
+    Cases(u64),
+    Time(Instant),
+}
+
+impl Until {
+    fn reached(self, number: u64) -> bool {
+        match self {
+            Until::Cases(count) => number >= count,
+            Until::Time(time) => Instant::now() >= time,
+        }
+    }
+}
+
+/// Runs the cases of a seed from number 0 on, on all processors, until the end
+/// or the first difference.
+pub fn run(seed: u64, until: Until) -> Result<Tally, String> {
+    let next = AtomicU64::new(0);
+    let failed = AtomicBool::new(false);
+    let work = || {
+        let mut tally = Tally::new();
+        loop {
+            let number = next.fetch_add(1, Ordering::Relaxed);
+            if until.reached(number) || failed.load(Ordering::Relaxed) {
+                return Ok(tally);
+            }
+            let case = case(seed, number);
+            let answer = case.check().map_err(|difference| {
+                failed.store(true, Ordering::Relaxed);
+                format!("seed {seed}, case {number}: {difference}")
+            })?;
+            let code = match (case.call, answer) {
+                (Call::Name, (_, 0, 0)) => 15,
+                (_, (code, ..)) => code,
+            };
+            *tally.entry((case.call, code)).or_default() += 1;
+        }
+    };
+    let workers = std::thread::available_parallelism().map_or(1, usize::from);
+    let tallies = std::thread::scope(|scope| {
+        let started: Vec<_> = (0..workers).map(|_| scope.spawn(work)).collect();
+        started
+            .into_iter()
+            .map(|worker| worker.join().unwrap_or_else(|_| Err(stopped(seed))))
+            .collect::<Result<Vec<Tally>, String>>()
+    })?;
+    let mut whole = Tally::new();
+    for (key, count) in tallies.into_iter().flatten() {
+        *whole.entry(key).or_default() += count;
+    }
+    Ok(whole)
+}
+
+fn stopped(seed: u64) -> String {
+    format!("seed {seed}: a case stopped, see above")
+}

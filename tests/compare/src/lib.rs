@@ -1,0 +1,192 @@
+//! Holds the library against the model: one call, the same bytes handed to
+//! both, and everything that comes back compared.
+
+pub mod chance;
+
+use odl::raw;
+
+#[derive(Debug, Clone, Copy, PartialEq, Eq, PartialOrd, Ord)]
+pub enum Call {
+    Read,
+    Write,
+    Text,
+    Find,
+    Name,
+}
+
+/// A call and all that is handed to it. What the call does not take is empty.
+#[derive(Clone, PartialEq, Eq)]
+pub struct Case {
+    pub call: Call,
+    pub label: Vec<u8>,
+    pub table: Vec<u8>,
+    pub name: Vec<u8>,
+    pub row: usize,
+    /// Length of the lent room.
+    pub room: usize,
+}
+
+/// Code, place and length; of a lookup code, place and offset; of a name 0,
+/// start and end.
+pub type Answer = (u8, usize, usize);
+
+impl Case {
+    pub fn read(label: &[u8], room: usize) -> Case {
+        Case {
+            room,
+            ..Case::over(Call::Read, label, &[])
+        }
+    }
+
+    /// A call over a label and a table, with the rest still empty.
+    pub fn over(call: Call, label: &[u8], table: &[u8]) -> Case {
+        Case {
+            call,
+            label: label.to_vec(),
+            table: table.to_vec(),
+            name: Vec::new(),
+            row: 0,
+            room: 0,
+        }
+    }
+
+    fn library(&self, room: &mut [u8]) -> Answer {
+        let Case { label, table, .. } = self;
+        let answer = match self.call {
+            Call::Read => raw::read(label, room),
+            Call::Write => raw::write(label, table, room),
+            Call::Text => raw::text(label, table, self.row, room),
+            Call::Find => {
+                let found = raw::find(label, table, &self.name, self.row);
+                return (found.code, found.place, found.at);
+            }
+            Call::Name => {
+                let (start, end) = raw::name(label, table, self.row);
+                return (0, start, end);
+            }
+        };
+        (answer.code, answer.place, answer.length)
+    }
+
+    fn model(&self, room: &mut [u8]) -> Answer {
+        let Case { label, table, .. } = self;
+        let answer = match self.call {
+            Call::Read => odl_model::read(label, room),
+            Call::Write => odl_model::write(label, table, room),
+            Call::Text => odl_model::text(label, table, self.row, room),
+            Call::Find => return odl_model::find(label, table, &self.name, self.row),
+            Call::Name => {
+                let (start, end) = odl_model::name(label, table, self.row);
+                return (0, start, end);
+            }
+        };
+        (answer.code, answer.place, answer.length)
+    }
+
+    /// The room that the model says is needed.
+    pub fn room_needed(&self) -> usize {
+        match self.call {
+            Call::Read | Call::Write | Call::Text => self.model(&mut []).2,
+            Call::Find | Call::Name => 0,
+        }
+    }
+
+    /// Compares the two on this case: the answer, or what differs.
+    pub fn check(&self) -> Result<Answer, String> {
+        let before = self.clone();
+        let (library, our_room, kept) = lent(self.room, |room| self.library(room));
+        let (model, model_room, _) = lent(self.room, |room| self.model(room));
+        let differs = |what: String| {
+            let said = format!("library {library:?}, model {model:?}");
+            Err(format!("{what}\n{said}\n{}", self.shown()))
+        };
+        if !kept {
+            return differs("bytes around the room were touched".to_string());
+        }
+        if library != model {
+            return differs("the answers differ".to_string());
+        }
+        if let Some(at) = first_difference(&our_room, &model_room) {
+            return differs(format!("the rooms differ at byte {at}"));
+        }
+        // What the rules say of the room, whatever the model did with it.
+        let written = match self.call {
+            Call::Read | Call::Write | Call::Text if library.0 == 0 => library.2,
+            _ => 0,
+        };
+        let touched = |&(at, &byte): &(usize, &u8)| at >= written && byte != pattern(at);
+        if let Some((at, _)) = our_room.iter().enumerate().find(touched) {
+            return differs(format!("byte {at} of the room was touched"));
+        }
+        if *self != before {
+            return differs("bytes lent for reading were changed".to_string());
+        }
+        Ok(library)
+    }
+
+    /// Compares with ample room, just enough, one short and none.
+    pub fn check_rooms(&self) -> Result<usize, String> {
+        let needed = self.room_needed();
+        let rooms = [needed + 17, needed, needed.saturating_sub(1), 0];
+        for room in rooms {
+            Case {
+                room,
+                ..self.clone()
+            }
+            .check()?;
+        }
+        Ok(rooms.len())
+    }
+
+    fn shown(&self) -> String {
+        let table: String = self.table.iter().map(|b| format!("{b:02x}")).collect();
+        let table = cut(table);
+        format!(
+            "{:?} with room {} at row {}\nname  \"{}\"\nlabel ({} bytes) \"{}\"\ntable ({} bytes) {}",
+            self.call,
+            self.room,
+            self.row,
+            self.name.escape_ascii(),
+            self.label.len(),
+            cut(self.label.escape_ascii().to_string()),
+            self.table.len(),
+            table,
+        )
+    }
+}
+
+/// What is shown of long inputs; `case` of the program gives them again.
+fn cut(mut shown: String) -> String {
+    if shown.len() > 4_000 {
+        shown.truncate(4_000);
+        shown += "...";
+    }
+    shown
+}
+
+/// Bytes on either side of the lent room that are not lent.
+const AROUND: usize = 64;
+
+/// What the room holds beforehand, so that a moved or cleared byte shows.
+fn pattern(at: usize) -> u8 {
+    (at as u8).wrapping_mul(37) ^ (at >> 8) as u8 ^ 0xA5
+}
+
+/// Runs a call with room of this length: its answer, the room, and whether the
+/// bytes around it were left alone.
+fn lent(length: usize, call: impl Fn(&mut [u8]) -> Answer) -> (Answer, Vec<u8>, bool) {
+    const UNLENT: u8 = 0x5A;
+    let mut memory = vec![UNLENT; length + 2 * AROUND];
+    for (at, byte) in memory[AROUND..AROUND + length].iter_mut().enumerate() {
+        *byte = pattern(at);
+    }
+    let answer = call(&mut memory[AROUND..AROUND + length]);
+    let after = memory.split_off(AROUND + length);
+    let room = memory.split_off(AROUND);
+    let kept = memory.iter().chain(&after).all(|&byte| byte == UNLENT);
+    (answer, room, kept)
+}
+
+fn first_difference(one: &[u8], other: &[u8]) -> Option<usize> {
+    one.iter().zip(other).position(|(a, b)| a != b)
+}

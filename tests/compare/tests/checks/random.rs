@@ -1,0 +1,69 @@
+//! Random cases; ODL_SEED chooses others.
+
+use compare::chance::{self, Until};
+use compare::Call;
+use odl::Row;
+use odl_model::random::Random;
+use std::io::Write;
+
+const CASES: u64 = 150_000;
+
+#[test]
+fn random_cases_agree_and_reach_every_code() {
+    let seed = std::env::var("ODL_SEED").map_or(1, |seed| seed.parse().unwrap());
+    // Past the test's capture, so that it is seen even if the library crashes.
+    let _ = writeln!(std::io::stderr(), "random cases with seed {seed}");
+    let tally = chance::run(seed, Until::Cases(CASES)).unwrap_or_else(|text| panic!("{text}"));
+    assert_eq!(tally.values().sum::<u64>(), CASES);
+    let expected: [(Call, &[u8]); 5] = [
+        (Call::Read, &[0, 1, 2, 3, 4, 5, 6, 7, 8, 9, 10, 11]),
+        (Call::Write, &[0, 1, 11, 12, 13]),
+        (Call::Text, &[0, 1, 11, 12, 15]),
+        (Call::Find, &[0, 1, 12, 14, 15]),
+        (Call::Name, &[0, 15]),
+    ];
+    let expected: Vec<(Call, u8)> = expected
+        .iter()
+        .flat_map(|&(call, codes)| codes.iter().map(move |&code| (call, code)))
+        .collect();
+    let reached: Vec<(Call, u8)> = tally.keys().copied().collect();
+    assert_eq!(reached, expected);
+}
+
+#[test]
+fn random_relabelling_agrees_and_rows_decode() {
+    let mut random = Random::new(3);
+    for _ in 0..5_000 {
+        let label = odl_model::random::label(&mut random);
+        let library = odl::relabel(&label).unwrap_or_else(|error| {
+            format!("REFUSED {} {}\r\n", error.code as u8, error.place).into_bytes()
+        });
+        let shown = label.escape_ascii();
+        assert_eq!(library, odl_model::relabel(&label), "{shown}");
+        // Each name and text is looked up anew, which is too much for long ones.
+        let Ok(read) = odl::read(&label) else {
+            continue;
+        };
+        let looked_up = label.len() < 2_000;
+        let mut end = 0;
+        for entry in &read {
+            assert_eq!(entry.offset, end, "{shown}");
+            end = entry.next;
+            if looked_up {
+                let name = match entry.row {
+                    Row::Attribute(name) | Row::Pointer(name) => Some(name),
+                    Row::Object(name) | Row::Group(name) | Row::Symbol(name) => Some(name),
+                    Row::Unit { name, .. } => Some(name),
+                    _ => None,
+                };
+                let name = name.map(|name| name.as_written());
+                assert_eq!(read.name(entry.offset), name, "{shown}");
+                let is_text = matches!(entry.row, Row::Text(_));
+                assert_eq!(read.text(entry.offset).is_ok(), is_text, "{shown}");
+            }
+        }
+        assert_eq!(end, read.table().as_bytes().len(), "{shown}");
+        // What the header promises of the room needed.
+        assert!(end <= 5 * label.len(), "{shown}");
+    }
+}
