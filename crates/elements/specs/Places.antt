@@ -14,7 +14,6 @@ use Rattle.elements.specs.declared.Skip.{Skip}
 use Rattle.elements.specs.declared.Skip.the-variants.{At, Broken}
 use Rattle.elements.specs.declared.Mark.{Mark}
 use Rattle.elements.specs.declared.Mark.the-variants.{One, Asterisk, Stroke, Quote, Apostrophe, Nothing}
-
 use Rattle.classes.specs.Places.{part}
 
 -- a comment opens at a place

@@ -1,6 +1,17 @@
 // The elements of a label: blanks and comments passed, then the word, sign, text or symbol that stands there, or the fault.
-use classes::{byte_at, in_comment, in_line, in_symbol, in_text, is_blank, is_line_end, is_word};
-use words::{word, Fixed, Moment, Real, Value};
+use classes::byte_at;
+use classes::in_comment;
+use classes::in_line;
+use classes::in_symbol;
+use classes::in_text;
+use classes::is_blank;
+use classes::is_line_end;
+use classes::is_word;
+use words::Fixed;
+use words::Moment;
+use words::Real;
+use words::Value;
+use words::word;
 ghost use mathlib.Core.Path.{_≡_};
 ghost use Prim.Native.Nat.{_≤_};
 ghost use lib.ListN.{length, drop};

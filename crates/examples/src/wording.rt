@@ -1,8 +1,14 @@
 // The rows of a table, in words.
-use crate::print::{print_bytes, print_number, print_padded, print_signed};
-use rows::{Kind, Op, Row};
+use crate::print::print_bytes;
+use crate::print::print_number;
+use crate::print::print_padded;
+use crate::print::print_signed;
+use rows::Kind;
+use rows::Op;
+use rows::Row;
 use table::row_at;
-use words::{Moment, Real};
+use words::Moment;
+use words::Real;
 
 // The label's bytes from a to b, as far as there are any.
 fn print_span(label: &[u8], a: usize, b: usize) {

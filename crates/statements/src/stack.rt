@@ -1,9 +1,9 @@
 // What the state holds of the open blocks.
+use blocks::Blocks;
+use blocks::Top;
 use blocks::name_end;
 use blocks::name_start;
 use blocks::top_of;
-use blocks::Blocks;
-use blocks::Top;
 use rows::Kind;
 use rows::Op;
 use steps::Mode;

@@ -1,5 +1,8 @@
 // Statements: names and their signs, the words that open and close a block, END, and what follows a value.
 use crate::Mode;
+use crate::Nest;
+use crate::State;
+use crate::Stepped;
 use crate::moves::awaiting;
 use crate::moves::awaiting_in;
 use crate::moves::awaiting_unit;
@@ -8,13 +11,10 @@ use crate::moves::refuse;
 use crate::moves::sign_of;
 use crate::names::part;
 use crate::names::same_name;
-use crate::Nest;
-use crate::State;
-use crate::Stepped;
-use blocks::Top;
 use crate::values::in_row;
 use crate::values::in_sequence;
 use crate::values::in_set;
+use blocks::Top;
 use elements::Element;
 use rows::Kind;
 use rows::Op;

@@ -1,12 +1,12 @@
 // Units: a name, its exponent, and what joins the factors.
 use crate::Mode;
+use crate::State;
+use crate::Stepped;
 use crate::moves::awaiting;
 use crate::moves::awaiting_unit;
 use crate::moves::refuse;
 use crate::moves::sign_of;
 use crate::moves::with_unit;
-use crate::State;
-use crate::Stepped;
 use elements::Element;
 use rows::Op;
 use rows::Row;

@@ -1,12 +1,12 @@
 // Values: what a scalar, a sequence, a row or a set does with the element that comes next.
 use crate::Mode;
+use crate::Nest;
+use crate::State;
+use crate::Stepped;
 use crate::moves::awaiting;
 use crate::moves::awaiting_in;
 use crate::moves::refuse;
 use crate::moves::sign_of;
-use crate::Nest;
-use crate::State;
-use crate::Stepped;
 use elements::Element;
 use rows::Row;
 ghost use Rattle.rules.proofs.Grammar.Machine.{at-scalar, at-row, at-member, no-else, any-value, a-row, a-set-end, in-sequence, in-row, in-set};

@@ -1,8 +1,8 @@
 // The value of a row: numbers in their range and as they are held, dates and times that there are.
 use rows::Row;
-use words::month_length;
 use words::Moment;
 use words::Real;
+use words::month_length;
 ghost use mathlib.Core.Path.{_≡_};
 ghost use Rattle.rules.proofs.Tables.Checks.{withinTest, realTest, datedTest, timedTest, undatedTest, untimedTest, momentTest, valueTest};
 ghost use Rattle.words.specs.Says.{whole, realOf, momentOf};
@@ -29,7 +29,8 @@ fn dated(x: Moment) -> bool
 {
     let most = month_length(x.year as u64, x.month as u64);
     (0 < x.year)
-        & ((x.year < 10000) & ((0 < x.month) & ((x.month < 13) & ((0 < x.day) & (x.day as u64 <= most)))))
+        & ((x.year < 10000)
+            & ((0 < x.month) & ((x.month < 13) & ((0 < x.day) & (x.day as u64 <= most)))))
 }
 
 fn timed(x: Moment) -> bool

@@ -53,4 +53,3 @@ others b rows.Set d h = stays b rows.Set d refl
 others b rows.SetEnd d h = stays b rows.SetEnd d refl
 others b (rows.Last n) d h = stays b (rows.Last n) d refl
 others b (rows.Stop c p) d h = stays b (rows.Stop c p) d refl
-

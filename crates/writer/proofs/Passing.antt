@@ -23,7 +23,7 @@ use Rattle.blocks.specs.Stack.{Block, block, rest, many, startOf, endOf, blocks
 use Rattle.blocks.specs.declared.Blocks.{Blocks}
 use Rattle.blocks.proofs.Opened.{counted}
 use Rattle.table.specs.Decoding.{Reads, decodedOf}
-use Rattle.table.specs.Judging.{Judges} 
+use Rattle.table.specs.Judging.{Judges}
 use Rattle.table.specs.Judging as judging
 use Rattle.table.specs.declared.Got.{Got}
 use Rattle.table.specs.declared.Checked.the-variants as checked
@@ -254,11 +254,11 @@ module _ {label lent before out : List ℕ} {q : printing.Prior} {b : Blocks} {a
     after-row =
         let a : Puts (writesAll (priorOf q) (opensOf label (blocksOf b)) (meaning label (rowsOf (g .row)))) (midOf k (length out - k) out) p m = put .puts (opensOf label (blocksOf b)) (sees label b x y ex ey) in
         let e : writesAll (priorOf q) (opensOf label (blocksOf b)) (meaning label (rowsOf (g .row))) ≡ writes (leaves start (meaning label (w .done))) (open-after rule.outside (meaning label (w .done))) S =
-              ap (λ (l : List rule.Row). writesAll (priorOf q) (opensOf label (blocksOf b)) (meaning label l)) (H .one)
-              ∙ append-nil (writes (priorOf q) (opensOf label (blocksOf b)) S)
-              ∙ ap₂ (λ (u : Prior) (v : rule.Opens). writes u v S) (w .prior) (w .blocks) in
+        ap (λ (l : List rule.Row). writesAll (priorOf q) (opensOf label (blocksOf b)) (meaning label l)) (H .one)
+        ∙ append-nil (writes (priorOf q) (opensOf label (blocksOf b)) S)
+        ∙ ap₂ (λ (u : Prior) (v : rule.Opens). writes u v S) (w .prior) (w .blocks) in
         let f : soFar (meaning label (w .done)) ++ writes (leaves start (meaning label (w .done))) (open-after rule.outside (meaning label (w .done))) S ≡ soFar (meaning label (w .done ++ (H .row ∷ []))) =
-              sym (row-more (meaning label (w .done)) S) ∙ ap soFar (sym (means-append label (w .done) (H .row ∷ []))) in
+        sym (row-more (meaning label (w .done)) S) ∙ ap soFar (sym (means-append label (w .done) (H .row ∷ []))) in
         same-part f (onward (w .puts) ek (same-part e a))
 
     -- too long already
@@ -266,20 +266,22 @@ module _ {label lent before out : List ℕ} {q : printing.Prior} {b : Blocks} {a
     over z =
         let i : w .done ++ (H .row ∷ H .later) ≡ w .rows = sym (w .split ∙ ap (λ (l : List rule.Row). w .done ++ l) (H .is)) in
         let j : meaning label (w .done ++ (H .row ∷ [])) ++ meaning label (H .later) ≡ meaning label (w .rows) =
-              sym (means-append label (w .done ++ (H .row ∷ [])) (H .later)) ∙ ap (meaning label) (append-assoc (w .done) (H .row ∷ []) (H .later) ∙ i) in
+        sym (means-append label (w .done ++ (H .row ∷ [])) (H .later)) ∙ ap (meaning label) (append-assoc (w .done) (H .row ∷ []) (H .later) ∙ i) in
         let u = grows (meaning label (w .done ++ (H .row ∷ []))) (meaning label (H .later)) in
         let v : length (soFar (meaning label (w .done ++ (H .row ∷ [])))) ≤ length (soFar (meaning label (w .rows))) =
-              subst (λ (l : List Sense). length (soFar (meaning label (w .done ++ (H .row ∷ [])))) ≤ length (soFar l)) j u in
+        subst (λ (l : List Sense). length (soFar (meaning label (w .done ++ (H .row ∷ [])))) ≤ length (soFar l)) j u in
         let c : length (canonical (meaning label (w .rows))) ≡ length (soFar (meaning label (w .rows))) + 2 = length-append (soFar (meaning label (w .rows))) (13 ∷ 10 ∷ []) in
         record { rows = w .rows; proper = w .ruled; written = beyond z (omega (arith, after-row .count)) (after-row .long) }
 
     room-for : Opens b (g .row)
-    room-for = record { room = λ j u v e.
-        let s : H .row ≡ rule.opened (kindOf j) (span u v) = sym (first-of (ap rowsOf (sym e) ∙ H .one)) in
-        let d = H .room (kindOf j) (span u v) s in
-        let c : rule.depth (opensOf label (blocksOf b)) ≡ b .depth = deep-as label (blocksOf b) ∙ counted (b .starts) (b .ends) (b .kinds) (b .depth) in
-        let i : Held _ label (span u v) = subst (Holds label) s (H .holds) in
-        (omega (arith, ap rule.depth (w .blocks)), omega (arith, i .ordered, i .inside, w .short), omega (arith, i .inside, w .short)) }
+    room-for = record {
+      room = λ j u v e.
+          let s : H .row ≡ rule.opened (kindOf j) (span u v) = sym (first-of (ap rowsOf (sym e) ∙ H .one)) in
+          let d = H .room (kindOf j) (span u v) s in
+          let c : rule.depth (opensOf label (blocksOf b)) ≡ b .depth = deep-as label (blocksOf b) ∙ counted (b .starts) (b .ends) (b .kinds) (b .depth) in
+          let i : Held _ label (span u v) = subst (Holds label) s (H .holds) in
+          (omega (arith, ap rule.depth (w .blocks)), omega (arith, i .ordered, i .inside, w .short), omega (arith, i .inside, w .short));
+    }
 
     pub again : (q′ : printing.Prior) (b′ : Blocks) → n + m ≤ 65535 → Leaves (priorOf q) (g .row) (priorOf q′) → Nested b (g .row) b′ →
         Walking label lent before (putMid k (length out - k) out p) q′ b′ (g .next) (n + m)

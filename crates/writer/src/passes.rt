@@ -54,7 +54,15 @@ pub fn pass(label: &[u8], lent: &[u8], out: &mut [u8]) -> usize
         let g = row_at(lent, at);
         let row = g.row;
         let k = least(n, out.len());
-        n += put_row(&mut out[k..], label, q, b.depth, name_start(b), name_end(b), row);
+        n += put_row(
+            &mut out[k..],
+            label,
+            q,
+            b.depth,
+            name_start(b),
+            name_end(b),
+            row,
+        );
         if 65535 < n {
             return n;
         }
