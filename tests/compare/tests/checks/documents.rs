@@ -1,0 +1,166 @@
+//! What the documents say of written labels, texts, names and lookups, worked out by hand.
+
+use odl::Code;
+
+fn canonical(label: &[u8]) -> String {
+    String::from_utf8(odl::relabel(label).unwrap()).unwrap()
+}
+
+/// The written form of a value that stands alone in `A=value END`.
+fn written(value: &str) -> String {
+    let label = canonical(format!("A={value} END").as_bytes());
+    let value = label.strip_prefix("A = ").unwrap();
+    value.strip_suffix("\r\nEND\r\n").unwrap().to_string()
+}
+
+fn table(label: &[u8]) -> Vec<u8> {
+    odl::read(label).unwrap().into_table().into_bytes()
+}
+
+fn refusal<T: std::fmt::Debug>(answer: Result<T, odl::Error>) -> (Code, usize) {
+    let error = answer.unwrap_err();
+    (error.code, error.place)
+}
+
+fn code(number: u8) -> Code {
+    Code::from_number(number).unwrap()
+}
+
+#[test]
+fn numbers_are_written_in_one_way() {
+    for (value, form) in [
+        ("+007", "7"),
+        ("-0", "0"),
+        ("16#-4B#", "-75"),
+        ("-9223372036854775807", "-9223372036854775807"),
+        ("1.50", "15.E-1"),
+        ("100.", "1.E2"),
+        ("-1e5", "-1.E5"),
+        (".5", "5.E-1"),
+        ("5.", "5."),
+        ("-0.0", "0."),
+    ] {
+        assert_eq!(written(value), form, "{value}");
+    }
+}
+
+#[test]
+fn dates_and_times_are_written_in_one_way() {
+    for (value, form) in [
+        ("1990-07", "1990-01-07"),
+        ("2000-366", "2000-12-31"),
+        ("1990-7-4", "1990-07-04"),
+        ("12:00", "12:00:00Z"),
+        ("10:00-00:30", "10:00:00-00:30"),
+        ("1:10:39.4575+07", "01:10:39.4575+07:00"),
+        ("10:00:12.500z", "10:00:12.5Z"),
+        ("1990-158t15:24:12", "1990-06-07T15:24:12Z"),
+    ] {
+        assert_eq!(written(value), form, "{value}");
+    }
+}
+
+#[test]
+fn symbols_and_texts_are_written_in_one_way() {
+    for (value, form) in [
+        ("io", "IO"),
+        ("'io'", "IO"),
+        ("'end'", "'END'"),
+        ("'red sun'", "'RED SUN'"),
+        ("\"IO\"", "\"IO\""),
+        ("\"\"", "\"\""),
+        ("\"Jupi-\n  ter\"", "\"Jupiter\""),
+        ("\"Jupi- \nter\"", "\"Jupi- ter\""),
+        ("\"a \r\n\r\n b\"", "\"a b\""),
+        ("\"a\x01-\x02\nb\"", "\"ab\""),
+        ("\"a  b\"", "\"a  b\""),
+    ] {
+        assert_eq!(written(value), form, "{value:?}");
+    }
+}
+
+#[test]
+fn units_sequences_and_sets_are_written_in_one_way() {
+    for (value, form) in [
+        ("1 <km*sec**-2>", "1 <KM*SEC**-2>"),
+        ("1<m/s**1>", "1 <M/S>"),
+        ("1.5 <m**0>", "15.E-1 <M**0>"),
+        ("(1,2 <m>,x)", "(1, 2 <M>, X)"),
+        ("((1,2)(3))", "((1, 2)(3))"),
+        ("{a,'b c'}", "{A, 'B C'}"),
+        ("{ }", "{}"),
+    ] {
+        assert_eq!(written(value), form, "{value}");
+    }
+}
+
+#[test]
+fn blocks_are_indented_and_closed_by_name() {
+    assert_eq!(canonical(b"END"), "END\r\n");
+    assert_eq!(
+        canonical(b"group=a ^p=1 object=b x=1 end_object end_group END"),
+        "GROUP = A\r\n  ^P = 1\r\n  OBJECT = B\r\n    X = 1\r\n  END_OBJECT = B\r\nEND_GROUP = A\r\nEND\r\n"
+    );
+    let deep = "object=o ".repeat(80) + &"end_object ".repeat(80) + "END";
+    let lines: Vec<String> = (0..80)
+        .map(|depth| "  ".repeat(depth) + "OBJECT = O\r\n")
+        .chain(
+            (0..80)
+                .rev()
+                .map(|depth| "  ".repeat(depth) + "END_OBJECT = O\r\n"),
+        )
+        .collect();
+    assert_eq!(canonical(deep.as_bytes()), lines.concat() + "END\r\n");
+}
+
+#[test]
+fn tables_that_are_not_proper_are_refused_at_their_first_bad_row() {
+    assert_eq!(refusal(odl::write(b"", b"")), (code(12), 0));
+    assert_eq!(odl::write(b"END", &[99, 0, 3]).unwrap(), b"END\r\n");
+    assert_eq!(refusal(odl::write(b"EN", &[99, 0, 3])), (code(12), 0));
+    assert_eq!(refusal(odl::write(b"END", &[99, 0, 3, 0])), (code(12), 3));
+    assert_eq!(refusal(odl::write(b"A", &[1, 0, 0, 0, 1])), (code(12), 5));
+}
+
+#[test]
+fn a_lookup_stays_in_its_block_and_passes_blocks_whole() {
+    let label = b"A=1 OBJECT=O A=2 B=3 END_OBJECT a=4 END";
+    let table = table(label);
+    // Rows: A 0, 1 5, OBJECT 14, A 19, 2 24, B 33, 3 38, end 47, a 48, 4 53, last 62.
+    let find = |name: &str, row: usize| odl::find(label, &table, name.as_bytes(), row);
+    assert_eq!(find("a", 0).unwrap(), 0);
+    assert_eq!(find("A", 14).unwrap(), 48);
+    assert_eq!(find("A", 19).unwrap(), 19);
+    assert_eq!(find("b", 19).unwrap(), 33);
+    for (name, row) in [
+        ("B", 0),
+        ("B", 14),
+        ("A", 47),
+        ("A", 62),
+        ("A!", 0),
+        ("", 0),
+    ] {
+        assert_eq!(refusal(find(name, row)), (code(14), 0), "{name} {row}");
+    }
+    for row in [1, 5, 24, 63, usize::MAX] {
+        assert_eq!(refusal(find("A", row)), (code(15), 0), "{row}");
+    }
+}
+
+#[test]
+fn texts_and_names_are_those_of_their_row() {
+    let label = b"T=\"Jupi-\nter\" S=x END";
+    let table = table(label);
+    // Rows: T 0, text 5, S 10, x 15, last 20.
+    assert_eq!(odl::text(label, &table, 5).unwrap(), b"Jupiter");
+    for row in [0, 1, 10, 15, 20, usize::MAX] {
+        assert_eq!(
+            refusal(odl::text(label, &table, row)),
+            (code(15), 0),
+            "{row}"
+        );
+    }
+    for (row, name) in [(0, "T"), (5, ""), (10, "S"), (15, "x"), (20, ""), (3, "")] {
+        assert_eq!(odl::name(label, &table, row), name.as_bytes(), "{row}");
+    }
+}
