@@ -4,7 +4,14 @@ mod spelling; // spelling.rt: bytes of the label, compared and shown
 mod texts; // texts.rt: the text of a row
 mod names; // names.rt: the name of a row
 mod lookup; // lookup.rt: an attribute by its name
+mod answers; // answers.rt: code, place and length of an answer
 
+pub use answers::found_code;
+pub use answers::found_place;
+pub use answers::found_row;
+pub use answers::text_code;
+pub use answers::text_length;
+pub use answers::text_place;
 pub use lookup::find;
 pub use names::name;
 pub use names::name_span;

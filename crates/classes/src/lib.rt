@@ -8,10 +8,14 @@ ghost use Rattle.rules.specs.Bytes.{digit, letter, alnum, lower, fold, wordByte
 ghost use Rattle.rules.specs.Elements.{isBlank};
 ghost use Rattle.classes.specs.Places.{ByteAt};
 
+// Letters come first: most bytes of words are letters.
 pub fn is_word(b: u8) -> bool
     ensures { λ r. ⌜ r ≡ wordByte b ⌝ }
 {
-    ((((b >= 65) & (b <= 90)) | ((b >= 97) & (b <= 122))) | ((b >= 48) & (b <= 57)))
+    if is_letter(b) {
+        return true;
+    }
+    ((b >= 48) & (b <= 57))
         | ((b == 95) | ((b == 43) | ((b == 45) | ((b == 46) | ((b == 58) | (b == 35))))))
 }
 

@@ -1,3 +1,4 @@
+-- What the proofs of this crate share.
 pub mod Gaps
 pub mod Quotes
 pub mod Words

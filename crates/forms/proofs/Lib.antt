@@ -1,3 +1,4 @@
+-- What the proofs of this crate share.
 pub mod First
 pub mod Identifiers
 pub mod Numerals

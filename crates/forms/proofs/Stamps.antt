@@ -15,7 +15,7 @@ use Rattle.forms.specs.declared.Clock.{Clock}
 use Rattle.forms.specs.declared.Stamp.{Stamp}
 use Rattle.forms.specs.declared.Form.{Form}
 use Rattle.forms.specs.declared.Form.the-variants.{NoForm, Moment, Day}
-use Rattle.forms.specs.Forms.{timeOf, Reads, on, stamped, dateOf, atSecond, inMonth}
+use Rattle.forms.specs.Forms.{timeOf, Reads, on, stamped, dateOf, atSecond, g-decimals, inMonth}
 use Rattle.forms.specs.declared.Span.{Span}
 use Rattle.forms.specs.declared.Date.{Date}
 use Rattle.forms.specs.declared.Date.the-variants.{InYear, InMonth}
@@ -110,17 +110,21 @@ module _ (w : List ℕ) (s : Stamp) (h mi : Span) (at : ℕ) where
     pub sec-few : not t ≡ true → Timed NoForm
     sec-few f = r-is w at 58 NoForm refl (sym (y .is) ∙ q) (r-byte w at 58 NoForm (there w at x 58 (omega arith) y q) (sym (y .is) ∙ q) (r-short w (at + 1) e d (sym k ∙ not-true t f)))
 
-    pub sec-whole : (r : Form) (v : ℕ) → not t ≡ false → ByteAt w e v → (v ≡ 46 → ⊥) →
-        Reads (g-zone (λ z. timeOf w s (record { hour = h; minute = mi; second = record { from = at + 1; upto = e }; decimals = record { from = 0; upto = 0 } }) z)) w e r → Timed r
-    sec-whole r v f u n g =
-        r-is w at 58 r refl (sym (y .is) ∙ q) (r-byte w at 58 r (there w at x 58 (omega arith) y q) (sym (y .is) ∙ q)
-        (r-run w (at + 1) e r d (sym k ∙ not-false t f) (r-isnt w e 46 r refl (λ p. n (u .is ∙ p)) g)))
+    pub sec-some : (r : Form) → not t ≡ false → Reads (g-decimals (on w (record { from = at + 1; upto = e })) (atSecond w s h mi)) w e r → Timed r
+    sec-some r f g =
+        r-is w at 58 r refl (sym (y .is) ∙ q) (r-byte w at 58 r (there w at x 58 (omega arith) y q) (sym (y .is) ∙ q) (r-run w (at + 1) e r d (sym k ∙ not-false t f) g))
 
-    pub sec-decimal : (r : Form) (v i : ℕ) → not t ≡ false → ByteAt w e v → v ≡ 46 → Digits w (e + 1) i →
-        Reads (g-zone (λ z. timeOf w s (record { hour = h; minute = mi; second = record { from = at + 1; upto = e }; decimals = record { from = e + 1; upto = i } }) z)) w i r → Timed r
-    sec-decimal r v i f u n d₂ g =
-        r-is w at 58 r refl (sym (y .is) ∙ q) (r-byte w at 58 r (there w at x 58 (omega arith) y q) (sym (y .is) ∙ q)
-        (r-run w (at + 1) e r d (sym k ∙ not-false t f) (r-is w e 46 r refl (sym (u .is) ∙ n) (r-byte w e 46 r (there w e v 46 (omega arith) u n) (sym (u .is) ∙ n) (r-run w (e + 1) i r d₂ refl g)))))
+  module _ (se : Span) where
+    pub dec-none : (x : ℕ) (r : Form) → ByteAt w at x → (x ≡ 46 → ⊥) →
+        Reads (g-zone (λ z. timeOf w s (record { hour = h; minute = mi; second = se; decimals = record { from = 0; upto = 0 } }) z)) w at r →
+        Reads (g-decimals (on w se) (atSecond w s h mi)) w at r
+    dec-none x r y n k = r-isnt w at 46 r refl (λ q. n (y .is ∙ q)) k
+
+    pub dec-some : (x i : ℕ) (r : Form) → ByteAt w at x → x ≡ 46 → Digits w (at + 1) i →
+        Reads (g-zone (λ z. timeOf w s (record { hour = h; minute = mi; second = se; decimals = record { from = at + 1; upto = i } }) z)) w i r →
+        Reads (g-decimals (on w se) (atSecond w s h mi)) w at r
+    dec-some x i r y q d k =
+        r-is w at 46 r refl (sym (y .is) ∙ q) (r-byte w at 46 r (there w at x 46 (omega arith) y q) (sym (y .is) ∙ q) (r-run w (at + 1) i r d refl k))
 
 module _ (w : List ℕ) (s : Stamp) (at e : ℕ) (t : Bool) (d : Digits w at e) (k : t ≡ between 1 2 (e - at)) where
   pub minutes-few : (h : Span) → not t ≡ true → Reads (g-minutes (on w h) (stamped w s)) w at NoForm

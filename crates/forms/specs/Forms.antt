@@ -3,12 +3,12 @@ use Prim.Native.Nat.{ℕ}
 use mathlib.Core.Bool.{Bool}
 use mathlib.Core.Option.{Option, none, some}
 use mathlib.Core.Path.{_≡_}
-use mathlib.Core.List.{List, map, _++_}
+use mathlib.Core.List.{List, [], map, _++_}
 use lib.ListN.{drop, length}
 use Rattle.rules.specs.Bytes.{fold, digit, between}
 use Rattle.rules.specs.Values.{Date as DateR, in-year, in-month, Zone as ZoneR, Second, Time, Written, an-identifier, a-whole, a-based, a-decimal, a-date, a-time, a-date-time, number, signed}
 use Rattle.rules.proofs.Words.Patterns.{G, stop, byte, check, run, fork, matches}
-use Rattle.rules.proofs.Words.Shapes.{is, some-of, any, g-scale, g-based, g-minutes, g-days, g-zone, g-dated}
+use Rattle.rules.proofs.Words.Shapes.{is, some-of, any, sec, g-scale, g-based, g-minutes, g-days, g-zone, g-dated}
 use Rattle.classes.specs.Places.{part}
 use Rattle.forms.specs.declared.Span.{Span}
 use Rattle.forms.specs.declared.Date.{Date}
@@ -58,6 +58,10 @@ pub record Reads (g : G) (w : List ℕ) (at : ℕ) (r : Form) : Type 0 where
 -- after the seconds of a time
 abbrev pub atSecond : List ℕ → Stamp → Span → Span → Second → G
 atSecond w s h m x = g-zone (λ z. stamped w s (record { hour = number (on w h); minute = number (on w m); second = x; zone = z }))
+
+-- after the whole seconds of a time
+abbrev pub g-decimals : List ℕ → (Second → G) → G
+g-decimals s k = fork (is 46) (byte 46 (run digit any (λ fs. k (sec s fs)))) (k (sec s []))
 
 -- after the day of a month
 abbrev pub inMonth : List ℕ → Span → List ℕ → G

@@ -16,7 +16,7 @@ ghost use Rattle.rules.specs.Values.{utc};
 ghost use Rattle.rules.proofs.Words.Patterns.{run, stop};
 ghost use Rattle.rules.proofs.Words.Shapes.{g-days, g-dated, g-time, g-minutes, g-seconds, g-zone, g-offset};
 ghost use Rattle.classes.specs.Places.{part};
-ghost use Rattle.forms.specs.Forms.{Reads, timeOf, stamped, dateOf, on, atSecond, inMonth};
+ghost use Rattle.forms.specs.Forms.{Reads, timeOf, stamped, dateOf, on, atSecond, g-decimals, inMonth};
 
 // The zone of a time, behind its sign.
 fn zone_offset(w: &[u8], stamp: Stamp, clock: Clock, west: bool, at: usize) -> Form
@@ -29,15 +29,12 @@ fn zone_offset(w: &[u8], stamp: Stamp, clock: Clock, west: bool, at: usize) -> F
         return Form::NoForm;
     }
     if e == w.len() {
-        return Form::Moment(
-            stamp,
-            clock,
-            Zone {
-                west,
-                hours,
-                minutes: Span { from: 0, upto: 0 },
-            },
-        );
+        let zone = Zone {
+            west,
+            hours,
+            minutes: Span { from: 0, upto: 0 },
+        };
+        return Form::Moment(stamp, clock, zone);
     }
     if byte_at(w, e) != 58 {
         return Form::NoForm;
@@ -50,15 +47,12 @@ fn zone_offset(w: &[u8], stamp: Stamp, clock: Clock, west: bool, at: usize) -> F
     if f != w.len() {
         return Form::NoForm;
     }
-    Form::Moment(
-        stamp,
-        clock,
-        Zone {
-            west,
-            hours,
-            minutes: Span { from: q, upto: f },
-        },
-    )
+    let zone = Zone {
+        west,
+        hours,
+        minutes: Span { from: q, upto: f },
+    };
+    Form::Moment(stamp, clock, zone)
 }
 
 // The end of a time with no offset.
@@ -105,57 +99,52 @@ fn zone_at(w: &[u8], stamp: Stamp, clock: Clock, at: usize) -> Form
     Form::NoForm
 }
 
+// A time from the end of its whole seconds on.
+fn decimals(w: &[u8], stamp: Stamp, hour: Span, minute: Span, second: Span, at: usize) -> Form
+    requires { ⌜ at ≤ length (now w) ⌝ }
+    ensures { λ r. ⌜ Reads (g-decimals (on (now (w .entry)) second) (atSecond (now (w .entry)) stamp hour minute)) (now (w .entry)) at r ⌝ }
+{
+    if byte_at(w, at) != 46 {
+        let clock = Clock {
+            hour,
+            minute,
+            second,
+            decimals: Span { from: 0, upto: 0 },
+        };
+        return zone_at(w, stamp, clock, at);
+    }
+    let q = at + 1;
+    let e = digits_end(w, q);
+    let clock = Clock {
+        hour,
+        minute,
+        second,
+        decimals: Span { from: q, upto: e },
+    };
+    zone_at(w, stamp, clock, e)
+}
+
 // A time from the end of its minutes on.
 fn seconds(w: &[u8], stamp: Stamp, hour: Span, minute: Span, at: usize) -> Form
     requires { ⌜ at ≤ length (now w) ⌝ }
     ensures { λ r. ⌜ Reads (g-seconds (atSecond (now (w .entry)) stamp hour minute)) (now (w .entry)) at r ⌝ }
 {
-    let none = Span { from: 0, upto: 0 };
     if byte_at(w, at) != 58 {
-        return zone_at(
-            w,
-            stamp,
-            Clock {
-                hour,
-                minute,
-                second: none,
-                decimals: none,
-            },
-            at,
-        );
+        let none = Span { from: 0, upto: 0 };
+        let clock = Clock {
+            hour,
+            minute,
+            second: none,
+            decimals: none,
+        };
+        return zone_at(w, stamp, clock, at);
     }
     let q = at + 1;
     let e = digits_end(w, q);
     if !counts(1, 2, q, e) {
         return Form::NoForm;
     }
-    let second = Span { from: q, upto: e };
-    if byte_at(w, e) != 46 {
-        return zone_at(
-            w,
-            stamp,
-            Clock {
-                hour,
-                minute,
-                second,
-                decimals: none,
-            },
-            e,
-        );
-    }
-    let p = e + 1;
-    let f = digits_end(w, p);
-    zone_at(
-        w,
-        stamp,
-        Clock {
-            hour,
-            minute,
-            second,
-            decimals: Span { from: p, upto: f },
-        },
-        f,
-    )
+    decimals(w, stamp, hour, minute, Span { from: q, upto: e }, e)
 }
 
 // A time from its minutes on.

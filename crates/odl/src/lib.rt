@@ -1,11 +1,15 @@
-// The C face of the library: each function thin over a proved one, under the name that include/odl.h declares.
-use asked::Finding;
-use asked::TextAnswer;
+// The C face of the library: each function thin over a proved one, under the name that include/odl.h declares. Code, place and length
+// are set on every call, and the contract says of them and of the lent room what the rules say.
 use asked::find;
 use asked::name_span;
 use asked::text;
 use statements::read;
 use writer::write;
+ghost use Rattle.rules.specs.Modes.{base};
+ghost use Rattle.rules.specs.Reading.{Answered};
+ghost use Rattle.rules.specs.Writing.{Writes};
+ghost use Rattle.rules.specs.Asked.{says, Texted, Sought, Viewed};
+ghost use Rattle.rows.specs.Rows.{span};
 
 #[no_mangle]
 pub extern "C" fn odl_read(
@@ -13,7 +17,9 @@ pub extern "C" fn odl_read(
     table: &mut [u8],
     place: &mut usize,
     length: &mut usize,
-) -> u8 {
+) -> u8
+    ensures { λ c. ⌜ Answered base (now (label .entry)) (now (table .entry)) (says c (now (place .exit)) (now (length .exit))) (now (table .exit)) ⌝ }
+{
     let r = read(label, table);
     *place = statements::place_of(r);
     *length = statements::length_of(r);
@@ -27,48 +33,13 @@ pub extern "C" fn odl_write(
     out: &mut [u8],
     place: &mut usize,
     length: &mut usize,
-) -> u8 {
+) -> u8
+    ensures { λ c. ⌜ Writes (now (label .entry)) (now (table .entry)) (now (out .entry)) (says c (now (place .exit)) (now (length .exit))) (now (out .exit)) ⌝ }
+{
     let w = write(label, table, out);
     *place = writer::place_of(w);
     *length = writer::length_of(w);
     writer::code_of(w)
-}
-
-// Code, place and length of an answer.
-struct Numbers {
-    code: u8,
-    place: usize,
-    length: usize,
-}
-
-fn text_numbers(t: TextAnswer) -> Numbers {
-    match t {
-        TextAnswer::Given(n) => Numbers {
-            code: 0,
-            place: 0,
-            length: n,
-        },
-        TextAnswer::TooLong => Numbers {
-            code: 1,
-            place: 65535,
-            length: 0,
-        },
-        TextAnswer::Improper(at) => Numbers {
-            code: 12,
-            place: at,
-            length: 0,
-        },
-        TextAnswer::NoText => Numbers {
-            code: 15,
-            place: 0,
-            length: 0,
-        },
-        TextAnswer::NoRoom(n) => Numbers {
-            code: 11,
-            place: 0,
-            length: n,
-        },
-    }
 }
 
 #[no_mangle]
@@ -79,41 +50,13 @@ pub extern "C" fn odl_text(
     out: &mut [u8],
     place: &mut usize,
     length: &mut usize,
-) -> u8 {
-    let n = text_numbers(text(label, table, row, out));
-    *place = n.place;
-    *length = n.length;
-    n.code
-}
-
-fn find_numbers(f: Finding) -> Numbers {
-    match f {
-        Finding::At(at) => Numbers {
-            code: 0,
-            place: 0,
-            length: at,
-        },
-        Finding::TooLong => Numbers {
-            code: 1,
-            place: 65535,
-            length: 0,
-        },
-        Finding::Improper(at) => Numbers {
-            code: 12,
-            place: at,
-            length: 0,
-        },
-        Finding::NoName => Numbers {
-            code: 14,
-            place: 0,
-            length: 0,
-        },
-        Finding::NoLine => Numbers {
-            code: 15,
-            place: 0,
-            length: 0,
-        },
-    }
+) -> u8
+    ensures { λ c. ⌜ Texted (now (label .entry)) (now (table .entry)) row (now (out .entry)) (says c (now (place .exit)) (now (length .exit))) (now (out .exit)) ⌝ }
+{
+    let t = text(label, table, row, out);
+    *place = asked::text_place(t);
+    *length = asked::text_length(t);
+    asked::text_code(t)
 }
 
 #[no_mangle]
@@ -124,11 +67,13 @@ pub extern "C" fn odl_find(
     row: usize,
     place: &mut usize,
     at: &mut usize,
-) -> u8 {
-    let n = find_numbers(find(label, table, name, row));
-    *place = n.place;
-    *at = n.length;
-    n.code
+) -> u8
+    ensures { λ c. ⌜ Sought (now (label .entry)) (now (table .entry)) (now (name .entry)) row (says c (now (place .exit)) (now (at .exit))) ⌝ }
+{
+    let f = find(label, table, name, row);
+    *place = asked::found_place(f);
+    *at = asked::found_row(f);
+    asked::found_code(f)
 }
 
 #[no_mangle]
@@ -138,7 +83,9 @@ pub extern "C" fn odl_name(
     row: usize,
     start: &mut usize,
     end: &mut usize,
-) {
+)
+    ensures { λ _. ⌜ Viewed (now (label .entry)) (now (table .entry)) row (span (now (start .exit)) (now (end .exit))) ⌝ }
+{
     let s = name_span(label, table, row);
     *start = s.start;
     *end = s.end;

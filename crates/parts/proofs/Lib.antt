@@ -1,3 +1,4 @@
+-- What the proofs of this crate share.
 pub mod Laws
 pub mod Copies
 pub mod Reassembly

@@ -1,3 +1,4 @@
+-- What the proofs of this crate share.
 pub mod Chains
 pub mod Digits
 pub mod Moments

@@ -3,14 +3,14 @@ mod numbers; // numbers.rt: numbers in decimal
 mod times; // times.rt: dates and times
 mod lines; // lines.rt: what stands between rows
 mod values; // values.rt: the rows of values
-mod statements; // statements.rt: the rows of statements and blocks
+mod headings; // headings.rt: the rows that begin a line: names, blocks and END
 
+use headings::put_attribute;
+use headings::put_close;
+use headings::put_end;
+use headings::put_open;
+use headings::put_pointer;
 use rows::Row;
-use statements::put_attribute;
-use statements::put_close;
-use statements::put_end;
-use statements::put_open;
-use statements::put_pointer;
 use values::put_float;
 use values::put_integer;
 use values::put_sequence;

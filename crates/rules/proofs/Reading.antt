@@ -3,6 +3,7 @@
 pub mod Reader
 pub mod Examples
 pub mod Outcomes
+pub mod EndWord
 pub mod Beyond
 pub mod Modes
 pub mod Rows

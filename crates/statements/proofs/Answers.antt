@@ -1,10 +1,10 @@
--- The answer of a reading, from a pass into a room of the reader's own.
+-- The answer of a reading, from a pass into a room of the reader's own, and a second one where that room was too short.
 use Prim.Native.Nat.{ℕ, _≤_, _<_}
 use native.Mathlib.Omega.{arith}
 use mathlib.Core.Path.{_≡_, refl, sym, ap, _∙_}
 use mathlib.Core.List.{List, [], _∷_, _++_}
-use lib.ListN.{length, take, drop}
-use lib.Seq.{take-at}
+use lib.ListN.{length, take, drop, length-append, length-take, length-drop}
+use lib.Seq.{take-at, length-take-le}
 use types.Run.{OneOf, miss}
 use denote.Enum.Declared.{tagOf, declared}
 use Rattle.rules.specs.Data.{Row}
@@ -13,10 +13,13 @@ use Rattle.rules.specs.Table.{table}
 use Rattle.rules.specs.Reading.{Said, accepted, refused, Judged, Reads, too-long, read, Answered, stored, no-room, not-read}
 use Rattle.rules.proofs.Reading.Reader.{reading-unique}
 use Rattle.statements.specs.Answer.{said}
-use Rattle.statements.specs.Passes.{Passed, follows, is-refused}
+use Rattle.statements.specs.Passes.{Reached, Passed, follows, is-refused}
 use Rattle.statements.specs.declared.Reading.{Reading}
 use Rattle.statements.specs.declared.Reading.the-variants.{Accepted, TooLong, NoRoom}
+use Rattle.statements.specs.declared.cursor.Cursor.{Cursor}
 use Rattle.statements.proofs.Reading.{enum}
+use Rattle.statements.proofs.Rooms.{past}
+use Rattle.statements.proofs.Running.{elsewhere}
 
 -- an accepted label
 record Accepts (label before after : List ℕ) (p n : ℕ) : Type 0 where
@@ -48,6 +51,11 @@ stored-as r c h q = rw (q, c) (stored r (omega (arith, c)))
 pub not-read-long : (label room : List ℕ) → 65535 < length label → Answered base label room (said TooLong) room
 not-read-long label room h = not-read (too-long h)
 
+-- a reading may go on in the lent room, once what is behind is copied there
+pub carried : (room : List ℕ) {label own mid : List ℕ} {c : Cursor} → Reached label own c → c .n ≤ length room → mid ≡ take (c .n) own ++ drop (c .n) room → Reached label mid c
+carried room {own = own} {c = c} s h q =
+    elsewhere s (rw q (simp (length-append, length-take, length-drop) (omega (arith, s .fits)))) (rw q (take-at (take (c .n) own) (drop (c .n) room) (c .n) (length-take-le (c .n) own (s .fits))))
+
 module _ {label own last : List ℕ} {r : Reading} (room : List ℕ) (s : length label ≤ 65535) (f : Passed label own last r) where
   pub refusal-stands : OneOf (1 ∷ 2 ∷ 3 ∷ 4 ∷ 5 ∷ 6 ∷ 7 ∷ 8 ∷ 9 ∷ 10 ∷ 11 ∷ []) (tagOf (declared enum) r) → Answered base label room (said r) room
   refusal-stands h = go f h
@@ -67,10 +75,13 @@ module _ {label own last : List ℕ} {r : Reading} (room : List ℕ) (s : length
         let t : take n last ≡ table (a .rows) = ap (take n) w ∙ front (table (a .rows)) own n (a .count) in
         stored-as (read s (a .judged)) (a .count) h (q ∙ ap (λ (l : List ℕ). l ++ drop n room) t)
 
-    pub direct : {end : List ℕ} {r′ : Reading} → n ≤ length room → Passed label room end r′ → Answered base label room (said r′) end
-    direct h (follows {rows} {n = m} j c b) =
+    -- the room once k bytes are copied, and a second pass from there
+    pub resumed : {mid end : List ℕ} {k : ℕ} {r′ : Reading} → n ≤ length room → k ≤ length last → k ≤ n → mid ≡ take k last ++ drop k room → Passed label mid end r′ →
+        Answered base label room (said r′) end
+    resumed {mid} {k = k} h g i q (follows {rows} {n = m} j c b) =
         let a = accepts f e in
         let u = same-rows (reading-unique base (read s (a .judged)) (read s j)) in
-        let k : m ≤ length room = omega (arith, c, a .count, ap (λ (x : List Row). length (table x)) u) in
-        stored-as (read s j) c k (b k)
-    direct h (is-refused j k q) = absurd (not-both (reading-unique base (read s (accepts f e .judged)) (read s j)))
+        let w : m ≡ n = c ∙ sym (a .count ∙ ap (λ (x : List Row). length (table x)) u) in
+        let z : length mid ≡ length room = ap length q ∙ simp (length-append, length-take, length-drop) (omega arith) in
+        stored-as (read s j) c (omega arith) (b (omega arith) ∙ ap (λ (l : List ℕ). table rows ++ l) (ap (drop m) q ∙ past last room k m g (omega arith)))
+    resumed h g i q (is-refused j k x) = absurd (not-both (reading-unique base (read s (accepts f e .judged)) (read s j)))

@@ -1,3 +1,4 @@
+-- What the proofs of this crate share.
 pub mod Opened
 pub mod Turns
 pub mod Codes

@@ -41,10 +41,16 @@ module _ (w room out : List ℕ) (n m : ℕ) (h : n ≤ length room) (i : length
       rw (none, append-nil, x .bytes, all, drop-drop)
 
   pub added : length w ≤ 15 → Added w n room (putMid n (length room - n) room out) (n + m)
-  added j = record { next = ap (λ (k : ℕ). n + k) (x .count); small = j; long = ap length in-room ∙ simp (length-append, length-take, length-drop) (omega arith); bytes = λ z. in-room }
+  added j = record {
+    next = ap (λ (k : ℕ). n + k) (x .count);
+    small = j;
+    long = ap length in-room ∙ simp (length-append, length-take, length-drop) (omega arith);
+    front = ap (take n) in-room ∙ take-at (take n room) (w ++ drop (n + length w) room) n (length-take-le n room h);
+    bytes = λ z. in-room;
+  }
 
 pub not-added : (w room : List ℕ) (n k r : ℕ) → k ≡ length w → length w ≤ 15 → length room < n + length w → r ≡ n + k → Added w n room room r
-not-added w room n k r e j h q = record { next = q ∙ ap (λ (z : ℕ). n + z) e; small = j; long = refl; bytes = λ z. absurd (omega arith) }
+not-added w room n k r e j h q = record { next = q ∙ ap (λ (z : ℕ). n + z) e; small = j; long = refl; front = refl; bytes = λ z. absurd (omega arith) }
 
 -- w behind what is already there
 pub behind : (t w room out : List ℕ) (n : ℕ) → n ≡ length t → out ≡ t ++ drop n room → take n out ++ (w ++ drop (n + length w) out) ≡ (t ++ w) ++ drop (n + length w) room
@@ -58,3 +64,10 @@ behind t w room out n c h =
 pub more : (w d : List ℕ) (i : ℕ) → i < length w → i < length d → set (take i w ++ drop i d) i (getD w i 0) ≡ take (i + 1) w ++ drop (i + 1) d
 more w d i hw hd =
     rw (add-one, drop-cons d i 0 hd, set-at (take i w) (getD d i 0) (drop (suc i) d) (getD w i 0) i (length-take-le i w (le-of-lt hw)), take-suc w i 0 hw, append-snoc)
+
+-- what lies beyond a copy is as it was
+beyond : (w d : List ℕ) (k j : ℕ) → k ≤ length w → drop (k + j) (take k w ++ drop k d) ≡ drop (k + j) d
+beyond w d k j h = sym (drop-drop j k (take k w ++ drop k d)) ∙ ap (drop j) (drop-at (take k w) (drop k d) k (length-take-le k w h)) ∙ drop-drop j k d
+
+pub past : (w d : List ℕ) (k m : ℕ) → k ≤ length w → k ≤ m → drop m (take k w ++ drop k d) ≡ drop m d
+past w d k m h g = let e : k + (m - k) ≡ m = omega arith in rw e at (beyond w d k (m - k) h)

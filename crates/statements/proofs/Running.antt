@@ -2,9 +2,10 @@
 use mathlib.Core.Path.{_≡_, refl, sym, ap, _∙_, subst}
 use mathlib.Core.Bool.{false, false≢true}
 use mathlib.Core.List.{List, [], _∷_, _++_, append-assoc, append-nil}
-use Prim.Native.Nat.{ℕ, zero, suc, _+_, _-_, _*_, _<_, _≤_}
+use Prim.Native.Nat.{ℕ, zero, suc, _+_, _-_, _<_, _≤_}
 use native.Mathlib.Omega.{arith}
-use lib.ListN.{length, drop, length-append, length-take, length-drop}
+use lib.ListN.{length, take, drop, length-append, length-take, length-drop, take-append-drop}
+use lib.Seq.{take-at, take-take}
 use Rattle.rules.specs.Data as rule
 use Rattle.rules.specs.Modes.{base}
 use Rattle.rules.specs.Grammar.{strict}
@@ -23,12 +24,14 @@ use Rattle.elements.specs.declared.Found.the-variants.{Next, Fault, Finish}
 use Rattle.rows.specs.Rows.{rowsOf}
 use Rattle.rows.specs.declared.Row.{Row}
 use Rattle.rows.specs.declared.Row.the-variants as rows
-use Rattle.statements.specs.Passes.{Refusal, Added, Passed, follows, is-refused}
+use Rattle.statements.specs.Passes.{Refusal, Added, Sofar, Reached, Passed, follows, is-refused, Ran}
 use Rattle.steps.specs.States.{stateOf, opensOf, isEnded, Does, Begins}
 use Rattle.blocks.specs.Stack.{Block, blocksOf, blocksIn}
 use Rattle.statements.specs.Opened.{Sound}
 use Rattle.statements.specs.declared.Reading.{Reading}
 use Rattle.statements.specs.declared.Reading.the-variants.{Accepted, EndsEarly}
+use Rattle.statements.specs.declared.cursor.Cursor.{Cursor}
+use Rattle.statements.specs.declared.passes.Run.{Run}
 use Rattle.steps.specs.declared.Mode.the-variants as modes
 use Rattle.steps.specs.declared.State.{State}
 use Rattle.steps.specs.declared.Stepped.{Stepped}
@@ -89,20 +92,20 @@ module _ {label : List ℕ} {q : machine.State} {o : rule.Opens} {at : ℕ} (h :
 
 -- ---- the invariant
 
--- the rows so far, whose bytes stand in the room as far as they fit; and whatever the rules give from here on, they give it from the start with these rows before it
-pub record Sofar (label before out : List ℕ) (t : State) (b : Blocks) (at n : ℕ) : Type 0 where
+-- the rows so far, whose bytes stand in the room as far as they fit
+pub record Running (label before out : List ℕ) (t : State) (b : Blocks) (at n : ℕ) : Type 0 where
   pub rs : List rule.Row
-  pub on : (z : Outcome) → Goes base (stateOf label t) (opensOf label (blocksOf b)) at (drop at label) z → Goes base machine.at-statement rule.outside 0 label (onto rs z)
-  pub within : at ≤ length label
-  pub count : n ≡ length (table rs)
-  pub small : n ≤ 15 * at
+  pub sofar : Sofar label rs t b at n
+  pub sound : Sound t b
+  pub going : isEnded (t .mode) ≡ false
   pub long : length out ≡ length before
   pub bytes : n ≤ length before → out ≡ table rs ++ drop n before
 
-pub record Running (label before out : List ℕ) (t : State) (b : Blocks) (at n : ℕ) : Type 0 where
-  pub sofar : Sofar label before out t b at n
-  pub sound : Sound t b
-  pub going : isEnded (t .mode) ≡ false
+-- and a place behind from which a reading may go on
+pub record Noting (label before out : List ℕ) (t : State) (b : Blocks) (at n : ℕ) (full : Cursor) : Type 0 where
+  pub running : Running label before out t b at n
+  pub reached : Reached label out full
+  pub behind : full .n ≤ n
 
 -- in the base mode the first statement may begin wherever another may
 first-stop : {o : rule.Opens} {i : ℕ} {l : List ℕ} {z : Outcome} → Stop base machine.at-semicolon o i l z → Stop base machine.at-statement o i l z
@@ -124,19 +127,54 @@ from-start : (label : List ℕ) (t : State) (bs : List Block) (z : Outcome) → 
     Goes base machine.at-statement rule.outside 0 label (onto [] z)
 from-start label t bs z m b g = rw (onto-nil z) (first-statement (rw (m, b) at g))
 
-pub begins : (label out : List ℕ) (t : State) (b : Blocks) → Begins t → b .depth ≡ 0 → Running label out out t b 0 0
-begins label out t b g d = record {
+pub begins : (c : Cursor) → Begins (c .state) → c .blocks .depth ≡ 0 → c .at ≡ 0 → c .n ≡ 0 → (label room : List ℕ) → Reached label room c
+begins c g d p q label room = record {
+  rs = [];
   sofar = record {
-    rs = [];
-    on = λ z x. from-start label t (blocksOf b) z (g .mode) (none-held (b .starts) (b .ends) (b .kinds) (b .depth) d) x;
+    on = λ z x. from-start label (c .state) (blocksOf (c .blocks)) z (g .mode) (none-held (c .blocks .starts) (c .blocks .ends) (c .blocks .kinds) (c .blocks .depth) d) (rw p at x);
     within = omega arith;
-    count = refl;
+    count = q;
     small = omega arith;
-    long = refl;
-    bytes = λ z. refl;
   };
-  sound = sound-start t b g d;
+  sound = sound-start (c .state) (c .blocks) g d;
   going = rw (g .mode);
+  fits = omega arith;
+  bytes = rw q;
+}
+
+-- a reading may go on in another room that begins alike
+pub elsewhere : {label room room′ : List ℕ} {c : Cursor} → Reached label room c → c .n ≤ length room′ → take (c .n) room′ ≡ take (c .n) room → Reached label room′ c
+elsewhere s h q = record { rs = s .rs; sofar = s .sofar; sound = s .sound; going = s .going; fits = h; bytes = q ∙ s .bytes }
+
+-- a pass goes on from where a reading stands
+pub resumes : {label room : List ℕ} {c : Cursor} → Reached label room c → Noting label room room (c .state) (c .blocks) (c .at) (c .n) c
+resumes {room = room} {c} s = record {
+  running = record {
+    rs = s .rs;
+    sofar = s .sofar;
+    sound = s .sound;
+    going = s .going;
+    long = refl;
+    bytes = λ z. sym (take-append-drop (c .n) room) ∙ ap (λ (l : List ℕ). l ++ drop (c .n) room) (s .bytes);
+  };
+  reached = s;
+  behind = omega arith;
+}
+
+-- a place noted anew
+pub noted : {label before out : List ℕ} {t : State} {b : Blocks} {at n : ℕ} {c : Cursor} → Running label before out t b at n → n ≤ length out →
+    (c .state ≡ t) × (c .blocks ≡ b) × (c .at ≡ at) × (c .n ≡ n) → Noting label before out t b at n c
+noted {before = before} {n = n} s h e = record {
+  running = s;
+  reached = record {
+    rs = s .rs;
+    sofar = rw (e .0, e .1, e .2, e .3) (s .sofar);
+    sound = rw (e .0, e .1) (s .sound);
+    going = rw (e .0) (s .going);
+    fits = omega arith;
+    bytes = rw (e .3) (ap (take n) (s .bytes (omega (arith, s .long))) ∙ take-at (table (s .rs)) (drop n before) n (sym (s .sofar .count)));
+  };
+  behind = omega arith;
 }
 
 found-at : {label : List ℕ} {at : ℕ} {f v : Found} → NextAt label at f → f ≡ v → NextAt label at v
@@ -158,27 +196,46 @@ name-places {label} {at} {to} {x} {y} n h k s = go (subst (λ (v : Element). Nex
     go : NextAt label at (Next (Name x y) to) → (x < 65536) × (y < 65536)
     go (an-element {at = p} a b c n z q) = (omega arith, omega (arith, ap uptoOf z, part-length label at p a (omega arith), part-length label p to (omega arith) c))
 
+-- the room with one row more
+stores : {label before out out′ : List ℕ} {t : State} {b : Blocks} {at n n′ : ℕ} (row : Row) (s : Running label before out t b at n) → Added (table (rowsOf row)) n out out′ n′ →
+    n′ ≤ length before → out′ ≡ table (s .rs ++ rowsOf row) ++ drop n′ before
+stores {before = before} {out} {n = n} row s a z =
+    a .bytes (omega (arith, a .next, s .long)) ∙
+    rw (table-append (s .rs) (rowsOf row), a .next) (behind (table (s .rs)) (table (rowsOf row)) before out n (s .sofar .count) (s .bytes (omega (arith, a .next))))
+
+-- a row is added behind what is there
+pub stays : {label out out′ w : List ℕ} {n n′ : ℕ} {c : Cursor} → Reached label out c → c .n ≤ n → Added w n out out′ n′ → Reached label out′ c
+stays {out = out} {out′} {n = n} {c = c} s h a =
+    elsewhere s (omega (arith, a .long, s .fits)) (sym (take-take (c .n) n out′ h) ∙ ap (take (c .n)) (a .front) ∙ take-take (c .n) n out h)
+
 module _ {label before out out′ : List ℕ} {t : State} {b : Blocks} {at n n′ to : ℕ} {e : Element} where
   -- one row more
-  goes-on : (row : Row) {t′ : State} {b′ : Blocks} → Running label before out t b at n → NextAt label at (Next e to) → (at < to) × (to ≤ length label) →
+  goes-on : (row : Row) {t′ : State} {b′ : Blocks} (s : Running label before out t b at n) → NextAt label at (Next e to) → (at < to) × (to ≤ length label) →
       machine.step base strict (stateOf label t) (opensOf label (blocksOf b)) (placedOf label e) ≡ machine.goes (stateOf label t′) (opensOf label (blocksOf b′)) (rowsOf row) →
-      Added (table (rowsOf row)) n out out′ n′ → Sofar label before out′ t′ b′ to n′
+      Added (table (rowsOf row)) n out out′ n′ → Sofar label (s .rs ++ rowsOf row) t′ b′ to n′
   goes-on row s x l m a =
       let f = s .sofar in
-      let tb : table (f .rs ++ rowsOf row) ≡ table (f .rs) ++ table (rowsOf row) = table-append (f .rs) (rowsOf row) in
       record {
-        rs = f .rs ++ rowsOf row;
-        on = λ z g. subst (λ (y : Outcome). Goes base machine.at-statement rule.outside 0 label y) (onto-onto (f .rs) (rowsOf row) z) (f .on (onto (rowsOf row) z) (one-turn (not-end label (t .mode) t (s .going)) x m g));
+        on = λ z g. subst (λ (y : Outcome). Goes base machine.at-statement rule.outside 0 label y) (onto-onto (s .rs) (rowsOf row) z) (f .on (onto (rowsOf row) z) (one-turn (not-end label (t .mode) t (s .going)) x m g));
         within = l .1;
-        count = a .next ∙ rw (tb, length-append, f .count);
+        count = a .next ∙ rw (table-append (s .rs) (rowsOf row), length-append, f .count);
         small = omega (arith, a .next, a .small, f .small, l .0);
-        long = a .long ∙ f .long;
-        bytes = λ z. a .bytes (omega (arith, a .next, f .long)) ∙ rw (tb, a .next) (behind (table (f .rs)) (table (rowsOf row)) before out n (f .count) (f .bytes (omega (arith, a .next))));
       }
 
-  pub again : {row : Row} {f : Found} {t′ : State} {b′ : Blocks} → Running label before out t b at n → NextAt label at f → f ≡ Next e to → Moves label t b e row t′ b′ →
-      Added (table (rowsOf row)) n out out′ n′ → Running label before out′ t′ b′ to n′
-  again {row} s x h m a = record { sofar = goes-on row s (found-at x h) (ahead x h) (m .moves) a; sound = m .sound; going = m .going }
+  pub again : {row : Row} {f : Found} {t′ : State} {b′ : Blocks} {c : Cursor} → Noting label before out t b at n c → NextAt label at f → f ≡ Next e to → Moves label t b e row t′ b′ →
+      Added (table (rowsOf row)) n out out′ n′ → Noting label before out′ t′ b′ to n′ c
+  again {row} s x h m a = record {
+    running = record {
+      rs = s .running .rs ++ rowsOf row;
+      sofar = goes-on row (s .running) (found-at x h) (ahead x h) (m .moves) a;
+      sound = m .sound;
+      going = m .going;
+      long = a .long ∙ s .running .long;
+      bytes = stores row (s .running) a;
+    };
+    reached = stays (s .reached) (s .behind) a;
+    behind = omega (arith, s .behind, a .next);
+  }
 
 -- ---- the ways out
 
@@ -203,6 +260,10 @@ module _ {label before out : List ℕ} {t : State} {b : Blocks} {at n : ℕ} {f 
 
   pub accepted-there : {e : Element} {to a n′ : ℕ} {w : Stepped} {out′ : List ℕ} → Running label before out t b at n → NextAt label at f → f ≡ Next e to →
       Does label t (stateOf label t) e w → w .row ≡ rows.Last a → Added (table (rowsOf (w .row))) n out out′ n′ → Passed label before out′ (Accepted to n′)
-  accepted-there {e} {to} {n′ = n′} {w = w} {out′ = out′} s x h m k d =
-      let y : Sofar label before out′ (w .state) b to n′ = goes-on (w .row) s (found-at x h) (ahead x h) (turn-last m (s .sound) k) d in
-      follows (judge (rw (append-nil (y .rs)) at (y .on (accepted [] to) (now (at-the-end (last-state m k)))))) (y .count) (y .bytes)
+  accepted-there {e} {to} {n′ = n′} {w = w} s x h m k d =
+      let y : Sofar label (s .rs ++ rowsOf (w .row)) (w .state) b to n′ = goes-on (w .row) s (found-at x h) (ahead x h) (turn-last m (s .sound) k) d in
+      follows (judge (rw (append-nil (s .rs ++ rowsOf (w .row))) at (y .on (accepted [] to) (now (at-the-end (last-state m k)))))) (y .count) (stores (w .row) s d)
+
+-- what a pass hands back
+pub ends : {label before out : List ℕ} {x : Reading} {c : Cursor} {r : Run} → Passed label before out x → Reached label out c → (r .reading ≡ x) × (r .full ≡ c) → Ran label before out r
+ends p s e = record { passed = rw (e .0) p; full = rw (e .1) s }

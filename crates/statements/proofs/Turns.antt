@@ -21,13 +21,11 @@ use Rattle.rows.specs.declared.Row.the-variants as rows
 use Rattle.rows.specs.declared.Kind as kind
 use Rattle.rows.specs.declared.Kind.the-variants as kinds
 use Rattle.rows.proofs.Row.{enum}
-use Rattle.steps.specs.States.{closing, stateIn, stateOf, opensOf, Does, Settles, isEnded, Effect, stays, opens, ends, effect, said, saidOf, stops, goes, placed, placeIn, Begins}
+use Rattle.steps.specs.States.{closing, stateIn, stateOf, opensOf, Does, Settles, isEnded, Effect, stays, opens, ends, effect, said, saidOf, stops, goes, placed, Begins}
 use Rattle.blocks.specs.Stack.{Block, block, rest, many, topOf, blocksOf}
 use Rattle.statements.specs.Opened.{seeing, Sound}
 use Rattle.steps.specs.declared.Mode.{Mode}
 use Rattle.steps.specs.declared.Mode.the-variants as modes
-use Rattle.steps.specs.declared.Nest as nest
-use Rattle.steps.specs.declared.Nest.the-variants as nests
 use Rattle.blocks.specs.declared.Top.the-variants as tops
 use Rattle.steps.specs.declared.State.{State}
 use Rattle.steps.specs.declared.Stepped.{Stepped}
@@ -86,12 +84,6 @@ none-open [] h = refl
 none-open (block kinds.Object a b ∷ bs) h = absurd (let z : _≡_ {A = ℕ} 0 1 = cc in omega arith)
 none-open (block kinds.Group a b ∷ bs) h = absurd (let z : _≡_ {A = ℕ} 0 1 = cc in omega arith)
 
-after-not : (n : nest.Nest) → isEnd (machine.after (placeIn n)) ≡ false
-after-not nests.Alone = refl
-after-not nests.Sequence = refl
-after-not nests.Row = refl
-after-not nests.Set = refl
-
 -- only END leads to the machine's last state
 pub not-end : (label : List ℕ) (m : Mode) (t : State) → isEnded m ≡ false → isEnd (stateIn label m t) ≡ false
 not-end label modes.Statement t h = refl
@@ -106,7 +98,9 @@ not-end label modes.Member t h = refl
 not-end label modes.FirstMember t h = refl
 not-end label modes.FirstOfSet t h = refl
 not-end label modes.AfterNumber t h = refl
-not-end label modes.After t h = after-not (t .nest)
+not-end label modes.InSequence t h = refl
+not-end label modes.InRow t h = refl
+not-end label modes.InSet t h = refl
 not-end label modes.UnitName t h = refl
 not-end label modes.AfterUnit t h = refl
 not-end label modes.Exponent t h = refl

@@ -1,3 +1,4 @@
+-- The terms of this crate's contracts.
 pub mod Answer
 pub mod Passes
 pub mod Opened

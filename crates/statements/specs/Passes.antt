@@ -1,29 +1,61 @@
--- What one pass over the label gives: the rules' judgement, the table's length, and its bytes where they fit.
-use Prim.Native.Nat.{ℕ, _+_, _≤_}
+-- What one pass over the label gives: the rules' judgement, the table's length, and its bytes where they fit; and where the room was full.
+use Prim.Native.Nat.{ℕ, _+_, _*_, _≤_}
 use mathlib.Core.Path.{_≡_}
+use mathlib.Core.Bool.{false}
 use mathlib.Core.List.{List, _++_}
 use lib.ListN.{length, take, drop}
-use Rattle.rules.specs.Data.{Row}
+use Rattle.rules.specs.Data as rule
 use Rattle.rules.specs.Modes.{base}
 use Rattle.rules.specs.Table.{table}
-use Rattle.rules.specs.Reading.{accepted, refused, Judged}
+use Rattle.rules.specs.Reading.{Outcome, accepted, refused, Judged}
+use Rattle.rules.proofs.Grammar.Machine as machine
+use Rattle.rules.proofs.Reading.Reader.{onto, Goes}
+use Rattle.steps.specs.States.{stateOf, opensOf, isEnded}
+use Rattle.steps.specs.declared.State.{State}
+use Rattle.blocks.specs.Stack.{blocksOf}
+use Rattle.blocks.specs.declared.Blocks.{Blocks}
 use Rattle.statements.specs.Answer.{said}
+use Rattle.statements.specs.Opened.{Sound}
 use Rattle.statements.specs.declared.Reading.{Reading}
 use Rattle.statements.specs.declared.Reading.the-variants.{Accepted}
+use Rattle.statements.specs.declared.cursor.Cursor.{Cursor}
+use Rattle.statements.specs.declared.passes.Run.{Run}
 
 -- the answer that says a refusal, for the codes that a label can be refused with
 pub record Refusal (c p : ℕ) (r : Reading) : Type 0 where
   pub is : 2 ≤ c → c ≤ 10 → said r ≡ record { code = c; place = p; size = 0 }
 
--- w at n, where the room holds it
+-- w at n, where the room holds it; what is before n stays in any case
 pub record Added (w : List ℕ) (n : ℕ) (before after : List ℕ) (r : ℕ) : Type 0 where
   pub next : r ≡ n + length w
   pub small : length w ≤ 15
   pub long : length after ≡ length before
+  pub front : take n after ≡ take n before
   pub bytes : n + length w ≤ length before → after ≡ take n before ++ (w ++ drop (n + length w) before)
 
+-- rs are the rows up to a place between two elements: whatever the rules give from there on, they give it from the start with these rows before it
+pub record Sofar (label : List ℕ) (rs : List rule.Row) (t : State) (b : Blocks) (at n : ℕ) : Type 0 where
+  pub on : (z : Outcome) → Goes base (stateOf label t) (opensOf label (blocksOf b)) at (drop at label) z → Goes base machine.at-statement rule.outside 0 label (onto rs z)
+  pub within : at ≤ length label
+  pub count : n ≡ length (table rs)
+  pub small : n ≤ 15 * at
+
+-- a reading may go on from the cursor, with the table so far at the room's start
+pub record Reached (label room : List ℕ) (c : Cursor) : Type 0 where
+  pub rs : List rule.Row
+  pub sofar : Sofar label rs (c .state) (c .blocks) (c .at) (c .n)
+  pub sound : Sound (c .state) (c .blocks)
+  pub going : isEnded (c .state .mode) ≡ false
+  pub fits : c .n ≤ length room
+  pub bytes : take (c .n) room ≡ table rs
+
 pub data Passed (label before after : List ℕ) : Reading → Type 0 where
-  follows : {rows : List Row} {i n : ℕ} → Judged base label (accepted rows i) → n ≡ length (table rows) →
+  follows : {rows : List rule.Row} {i n : ℕ} → Judged base label (accepted rows i) → n ≡ length (table rows) →
       (n ≤ length before → after ≡ table rows ++ drop n before) → Passed label before after (Accepted i n)
   is-refused : {c i : ℕ} {r : Reading} → Judged base label (refused c i) → 2 ≤ c → said r ≡ record { code = c; place = i; size = 0 } →
       Passed label before after r
+
+-- a pass: its answer, and a place from which a reading may go on in the room as it was left
+pub record Ran (label before after : List ℕ) (r : Run) : Type 0 where
+  pub passed : Passed label before after (r .reading)
+  pub full : Reached label after (r .full)

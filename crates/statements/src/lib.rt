@@ -1,7 +1,9 @@
 // The reader: a label's bytes into the table, or the first fault.
+mod cursor; // cursor.rt: where a reading stands
 mod passes; // passes.rt: one pass over the label
 mod stack; // stack.rt: the open blocks
 
+use cursor::start;
 use passes::copy;
 use passes::pass;
 ghost use mathlib.Core.Path.{_≡_};
@@ -74,7 +76,7 @@ pub fn length_of(r: Reading) -> usize
 }
 
 // The table goes into a room of the reader's own first, so that a refusal leaves the lent one as it was without a second pass;
-// a table that is longer than that room takes one more pass, straight into the lent one.
+// of a longer table that room's part is copied, and a second pass goes on where the room was full, straight into the lent one.
 pub fn read(label: &[u8], table: &mut [u8]) -> Reading
     ensures { λ r. ⌜ Answered base (now (label .entry)) (now (table .entry)) (said r) (now (table .exit)) ⌝ }
 {
@@ -82,7 +84,8 @@ pub fn read(label: &[u8], table: &mut [u8]) -> Reading
         return Reading::TooLong;
     }
     let mut own = [0u8; 16384];
-    let r = pass(label, &mut own);
+    let first = pass(label, &mut own, start());
+    let r = first.reading;
     let Reading::Accepted(place, n) = r else {
         return r;
     };
@@ -93,5 +96,8 @@ pub fn read(label: &[u8], table: &mut [u8]) -> Reading
         copy(&own, table, n);
         return Reading::Accepted(place, n);
     }
-    pass(label, table)
+    let full = first.full;
+    copy(&own, table, full.n);
+    let rest = pass(label, table, full);
+    rest.reading
 }

@@ -1,9 +1,9 @@
 // One pass over the label: each element stepped over, its row added to the table, and the blocks opened and closed as rows ask.
 use crate::Reading;
-use crate::stack::first_state;
+use crate::cursor::Cursor;
+use crate::cursor::standing;
 use crate::stack::seen;
 use crate::stack::with_name;
-use blocks::no_blocks;
 use blocks::pop;
 use blocks::push;
 use elements::Found;
@@ -18,7 +18,13 @@ ghost use Prim.Native.Nat.{_≤_};
 ghost use lib.ListN.{length, take, drop};
 ghost use Rattle.rules.specs.Table.{table};
 ghost use Rattle.rows.specs.Rows.{rowsOf};
-ghost use Rattle.statements.specs.Passes.{Refusal, Added, Passed};
+ghost use Rattle.statements.specs.Passes.{Refusal, Added, Reached, Ran};
+
+// The answer of a pass; and where the room was full, the last place where the table so far fitted it, if it came to be longer.
+pub struct Run {
+    pub reading: Reading,
+    pub full: Cursor,
+}
 
 // A refusal's answer, from its code.
 fn refusal(code: u8, place: usize) -> Reading
@@ -64,35 +70,41 @@ pub fn copy(from: &[u8], out: &mut [u8], n: usize)
     }
 }
 
-// The table's bytes are in the room where they fit; the room is not spared where they do not, or on refusal.
-pub fn pass(label: &[u8], room: &mut [u8]) -> Reading
-    requires { ⌜ length (now label) ≤ 65535 ⌝ }
-    ensures { λ r. ⌜ Passed (now (label .entry)) (now (room .entry)) (now (room .exit)) r ⌝ }
+fn ended(reading: Reading, full: Cursor) -> Run
+    ensures { λ r. ⌜ (r .reading ≡ reading) × (r .full ≡ full) ⌝ }
 {
-    let mut state = first_state();
-    let mut blocks = no_blocks();
-    let mut at = 0;
-    let mut n = 0;
+    Run {
+        reading: reading,
+        full: full,
+    }
+}
+
+// From a cursor on to END or the first fault. The table's bytes are in the room where they fit; where they do not, or on refusal, only those
+// up to `full`, which is noted before the first row that does not fit: no row is longer than 15 bytes.
+pub fn pass(label: &[u8], room: &mut [u8], from: Cursor) -> Run
+    requires { ⌜ (length (now label) ≤ 65535) × Reached (now label) (now room) from ⌝ }
+    ensures { λ r. ⌜ Ran (now (label .entry)) (now (room .entry)) (now (room .exit)) r ⌝ }
+{
+    let mut state = from.state;
+    let mut blocks = from.blocks;
+    let mut at = from.at;
+    let mut n = from.n;
+    let mut full = from;
     loop {
+        if (n <= room.len()) & (room.len() < n + 15) {
+            full = standing(state, blocks, at, n);
+        }
         match next(label, at) {
-            Found::Finish(p) => {
-                return Reading::EndsEarly(p);
-            }
-            Found::Fault(c, p) => {
-                return refusal(c, p);
-            }
+            Found::Finish(p) => return ended(Reading::EndsEarly(p), full),
+            Found::Fault(c, p) => return ended(refusal(c, p), full),
             Found::Next(e, end) => {
                 let w = step(label, state, e);
                 let row = w.row;
                 n = add_row(room, n, row);
                 at = end;
                 match row {
-                    Row::Stop(c, p) => {
-                        return refusal(c, p);
-                    }
-                    Row::Last(_) => {
-                        return Reading::Accepted(end, n);
-                    }
+                    Row::Stop(c, p) => return ended(refusal(c, p), full),
+                    Row::Last(_) => return ended(Reading::Accepted(end, n), full),
                     Row::Open(k, a, b) => {
                         blocks = push(blocks, k, a, b);
                         state = seen(w.state, blocks);
@@ -102,9 +114,7 @@ pub fn pass(label: &[u8], room: &mut [u8]) -> Reading
                         blocks = pop(blocks);
                         state = seen(state, blocks);
                     }
-                    _ => {
-                        state = w.state;
-                    }
+                    _ => state = w.state,
                 }
             }
         }

@@ -1,4 +1,6 @@
+-- What the proofs of this crate share.
 pub mod Offers
 pub mod Ways
+pub mod Modes
 pub mod Starts
 pub mod Closings

@@ -17,12 +17,13 @@ use denote.Enum.Declared.{tagOf, declared}
 use Rattle.elements.proofs.Element.{enum}
 use Rattle.steps.specs.Signs.{signOf, codeOf}
 use Rattle.elements.specs.Next.{placeOf, placedOf, span}
-use Rattle.rows.specs.Rows.{opOf}
-use Rattle.steps.specs.States.{opensOf, Sees, said, Kept, placed, Does, moved, halted, stateIn, placeIn, stops, Room, roomIn}
+use Rattle.rows.specs.Rows.{opOf, rowsOf}
+use Rattle.steps.specs.States.{opensOf, Sees, said, effect, stays, goes, Kept, placed, Does, followingIn, moved, halted, stateIn, placeIn, stops, Room, roomIn, isEnded}
 use Rattle.blocks.specs.Stack.{Block}
 use Rattle.elements.specs.declared.Element.{Element}
 use Rattle.elements.specs.declared.Element.the-variants.{Name, The, End, Integer, Based, Float, Time, Text, Symbol}
 use Rattle.steps.specs.declared.Mode.the-variants as modes
+use Rattle.rows.specs.declared.Row.{Row}
 use Rattle.rows.specs.declared.Row.the-variants as rows
 use Rattle.steps.specs.declared.Nest as nest
 use Rattle.steps.specs.declared.Nest.the-variants as nests
@@ -114,28 +115,47 @@ module _ {label : List ℕ} {t : State} {q q′ : machine.State} {e : Element} {
             ∙ skip (offers base q′ (opensOf label bs)) label e (first (rest (offers base q (opensOf label bs) .fixed))) (λ z. h′ (s ∙ z ∙ k′ bs))));
       }
 
--- ---- the mode and the nest that the code matches on
+-- ---- the scalar is done
 
-pub by-mode : {label : List ℕ} {t : State} {m : Mode} {e : Element} {r : Stepped} → t .mode ≡ m → Does label t (stateIn label m t) e r → Does label t (stateIn label (t .mode) t) e r
-by-mode {label} {t} {e = e} {r = r} h d = subst (λ (x : Mode). Does label t (stateIn label x t) e r) (sym h) d
+-- what follows it is the machine's own, asks no room, and is not the end
+follows : (label : List ℕ) (t : State) (n : nest.Nest) → stateIn label (followingIn n) t ≡ machine.after (placeIn n)
+follows label t nests.Alone = refl
+follows label t nests.Sequence = refl
+follows label t nests.Row = refl
+follows label t nests.Set = refl
 
-pub by-nest : {label : List ℕ} {t : State} {n : nest.Nest} {e : Element} {r : Stepped} → t .nest ≡ n → Does label t (machine.after (placeIn n)) e r → Does label t (machine.after (placeIn (t .nest))) e r
-by-nest {label} {t} {e = e} {r = r} h d = subst (λ (x : nest.Nest). Does label t (machine.after (placeIn x)) e r) (sym h) d
+follows-room : (n : nest.Nest) (full : Bool) → roomIn (followingIn n) full
+follows-room nests.Alone full = tt
+follows-room nests.Sequence full = tt
+follows-room nests.Row full = tt
+follows-room nests.Set full = tt
 
--- after a number: what follows the scalar, if no unit does
-follows : (n : nest.Nest) (o : rule.Opens) → offers base (machine.at-number (placeIn n)) o ≡ also (rule.less ⇒ machine.go (machine.at-unit (placeIn n) rule.first) o []) (offers base (machine.after (placeIn n)) o)
-follows nests.Alone o = refl
-follows nests.Sequence o = refl
-follows nests.Row o = refl
-follows nests.Set o = refl
+follows-going : (n : nest.Nest) → isEnded (followingIn n) ≡ false
+follows-going nests.Alone = refl
+follows-going nests.Sequence = refl
+follows-going nests.Row = refl
+follows-going nests.Set = refl
 
-pub no-unit : {label : List ℕ} {t : State} {e : Element} {r : Stepped} {c : ℕ} → c ≡ signOf e → (c ≡ 60 → ⊥) → Does label t (machine.after (placeIn (t .nest))) e r → Does label t (machine.at-number (placeIn (t .nest))) e r
-no-unit {label} {t} {e} s h d =
-    record {
-      kept = d .kept;
-      does = λ bs v. d .does bs v ∙ ap (λ (n : Next). placed (placeOf e) (judge strict n)) (sym (ap (λ (o : Offer). dispatch o (placedOf label e)) (follows (t .nest) (opensOf label bs))
-          ∙ skip (offers base (machine.after (placeIn (t .nest))) (opensOf label bs)) label e (rule.less ⇒ machine.go (machine.at-unit (placeIn (t .nest)) rule.first) (opensOf label bs) []) (λ z. h (s ∙ z))));
-    }
+module _ {label : List ℕ} {t : State} {q : machine.State} {e : Element} {r : Stepped} {row : Row} where
+  -- the general way: a row that leaves the blocks alone
+  done : r ≡ moved t (followingIn (t .nest)) row → effect row ≡ stays →
+      ((bs : List Block) → goes (machine.after (placeIn (t .nest))) (opensOf label bs) (rowsOf row) ≡ placed (placeOf e) (judge strict (dispatch (offers base q (opensOf label bs)) (placedOf label e)))) →
+      Does label t q e r
+  done g k h =
+      shown g (record { top = refl; full = refl; room = λ x. follows-room (t .nest) (t .full); settles = rw k (follows-going (t .nest)) })
+      (λ bs v. rw (k, follows label (moved t (followingIn (t .nest)) row .state) (t .nest)) (h bs))
+
+  -- by an element that is known
+  pub scalar-known : {v : Element} {m : Mode} → e ≡ v → m ≡ followingIn (t .nest) → r ≡ moved t m row → effect row ≡ stays →
+      ((bs : List Block) → goes (machine.after (placeIn (t .nest))) (opensOf label bs) (rowsOf row) ≡ placed (placeOf v) (step base strict q (opensOf label bs) (placedOf label v))) →
+      Does label t q e r
+  scalar-known s f g k h = done (rw f at g) k (λ bs. rw s (h bs))
+
+  -- by the sign of the number n
+  pub scalar-signed : {c n : ℕ} → c ≡ signOf e → c ≡ n → r ≡ moved t (followingIn (t .nest)) row → ltb 0 n ≡ true → effect row ≡ stays →
+      ((bs : List Block) → goes (machine.after (placeIn (t .nest))) (opensOf label bs) (rowsOf row) ≡ placed (placeOf e) (judge strict (look (offers base q (opensOf label bs) .fixed) n))) →
+      Does label t q e r
+  scalar-signed {n = n} s i g p k h = done g k (λ bs. rw (hit (offers base q (opensOf label bs)) label e n (sym s ∙ i) p) (h bs))
 
 -- ---- limits
 
@@ -186,4 +206,4 @@ still-room t h x = subst (λ (m : Mode). roomIn m (t .full)) h x
 pub has-room : (t : State) → t .mode ≡ modes.BlockName → Room t → t .full ≡ false
 has-room t h x = subst (λ (m : Mode). roomIn m (t .full)) h x
 
-pub ruleset ways = (known, hits, misses, no-name, no-whole, passes, passes2, by-mode, by-nest, no-unit, no-scalar, after-end, too-large, in-limit, still-room, has-room, needs)
+pub ruleset ways = (known, hits, misses, no-name, no-whole, passes, passes2, scalar-known, scalar-signed, no-scalar, after-end, too-large, in-limit, still-room, has-room, needs)

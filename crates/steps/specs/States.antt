@@ -20,6 +20,7 @@ use Rattle.rows.specs.declared.Row.the-variants as rows
 use Rattle.blocks.specs.Stack.{Block, block, many, topOf, rest}
 use Rattle.blocks.specs.declared.Top as top
 use Rattle.blocks.specs.declared.Top.the-variants as tops
+use Rattle.steps.specs.Signs.{signOf}
 use Rattle.steps.specs.declared.Nest as nest
 use Rattle.steps.specs.declared.Nest.the-variants as nests
 use Rattle.steps.specs.declared.Mode.{Mode}
@@ -53,7 +54,9 @@ stateIn label modes.Member t = machine.at-scalar (placeIn (t .nest)) machine.no-
 stateIn label modes.FirstMember t = machine.at-scalar (placeIn (t .nest)) machine.a-row
 stateIn label modes.FirstOfSet t = machine.at-scalar (placeIn (t .nest)) machine.a-set-end
 stateIn label modes.AfterNumber t = machine.at-number (placeIn (t .nest))
-stateIn label modes.After t = machine.after (placeIn (t .nest))
+stateIn label modes.InSequence t = machine.at-member machine.in-sequence
+stateIn label modes.InRow t = machine.at-member machine.in-row
+stateIn label modes.InSet t = machine.at-member machine.in-set
 stateIn label modes.UnitName t = machine.at-unit (placeIn (t .nest)) (opOf (t .op))
 stateIn label modes.AfterUnit t = machine.at-power (placeIn (t .nest)) (opOf (t .op)) (span (t .from) (t .upto))
 stateIn label modes.Exponent t = machine.at-exponent (placeIn (t .nest)) (opOf (t .op)) (span (t .from) (t .upto))
@@ -63,6 +66,13 @@ stateIn label modes.Ended t = machine.at-end
 
 abbrev pub stateOf : List ℕ → State → machine.State
 stateOf label t = stateIn label (t .mode) t
+
+-- what follows a scalar
+abbrev pub followingIn : nest.Nest → Mode
+followingIn nests.Alone = modes.Statement
+followingIn nests.Sequence = modes.InSequence
+followingIn nests.Row = modes.InRow
+followingIn nests.Set = modes.InSet
 
 -- ---- the open blocks, the innermost first: kind, start and end of the name
 
@@ -141,7 +151,9 @@ roomIn modes.Member full = Unit {0}
 roomIn modes.FirstMember full = Unit {0}
 roomIn modes.FirstOfSet full = Unit {0}
 roomIn modes.AfterNumber full = Unit {0}
-roomIn modes.After full = Unit {0}
+roomIn modes.InSequence full = Unit {0}
+roomIn modes.InRow full = Unit {0}
+roomIn modes.InSet full = Unit {0}
 roomIn modes.UnitName full = Unit {0}
 roomIn modes.AfterUnit full = Unit {0}
 roomIn modes.Exponent full = Unit {0}
@@ -165,7 +177,9 @@ isEnded modes.Member = false
 isEnded modes.FirstMember = false
 isEnded modes.FirstOfSet = false
 isEnded modes.AfterNumber = false
-isEnded modes.After = false
+isEnded modes.InSequence = false
+isEnded modes.InRow = false
+isEnded modes.InSet = false
 isEnded modes.UnitName = false
 isEnded modes.AfterUnit = false
 isEnded modes.Exponent = false
@@ -194,6 +208,14 @@ pub record Does (label : List ℕ) (t : State) (q : machine.State) (e : Element)
   pub kept : Kept t e r
   pub does : (bs : List Block) → Sees t bs →
       said label bs (r .state) (r .row) ≡ placed (placeOf e) (machine.step base strict q (opensOf label bs) (placedOf label e))
+
+-- The element e is met in the mode m: a step that does what m asks does what the state t asks. If m opens a block, it is t's own mode; if it is one whose sign can be left out, e is that sign.
+pub record MetIn (t : State) (e : Element) (m : Mode) : Type 0 where
+  pub stands : (label : List ℕ) (r : Stepped) → Does label t (stateIn label m t) e r → Does label t (stateOf label t) e r
+  pub opener : m ≡ modes.BlockEquals → t .mode ≡ modes.BlockEquals
+  pub opened : m ≡ modes.BlockName → t .mode ≡ modes.BlockName
+  pub equals : m ≡ modes.Closed → signOf e ≡ 61
+  pub less : m ≡ modes.AfterNumber → signOf e ≡ 60
 
 -- ---- the answers that the code makes
 

@@ -8,7 +8,6 @@ mod values; // values.rt: values
 use blocks::Top;
 use elements::Element;
 use lines::after_number;
-use lines::after_value;
 use lines::at_equals;
 use lines::begin;
 use lines::block_equals;
@@ -17,6 +16,7 @@ use lines::closed;
 use lines::closing_name;
 use lines::ended;
 use lines::pointer;
+use moves::settled;
 use rows::Kind;
 use rows::Op;
 use rows::Row;
@@ -27,6 +27,9 @@ use units::unit_name;
 use values::after_row;
 use values::first_member;
 use values::first_of_set;
+use values::in_row;
+use values::in_sequence;
+use values::in_set;
 use values::scalar;
 use values::value;
 ghost use Rattle.steps.specs.States.{stateOf, Does};
@@ -53,7 +56,9 @@ pub enum Mode {
     FirstMember,
     FirstOfSet,
     AfterNumber,
-    After,
+    InSequence,
+    InRow,
+    InSet,
     UnitName,
     AfterUnit,
     Exponent,
@@ -85,7 +90,7 @@ pub struct Stepped {
 pub fn step(label: &[u8], t: State, e: Element) -> Stepped
     ensures { λ r. ⌜ Does (now (label .entry)) t (stateOf (now (label .entry)) t) e r ⌝ }
 {
-    let mode = t.mode;
+    let mode = settled(t, e);
     match mode {
         Mode::Statement => begin(label, t, e),
         Mode::Equals => at_equals(label, t, e),
@@ -99,7 +104,9 @@ pub fn step(label: &[u8], t: State, e: Element) -> Stepped
         Mode::FirstMember => first_member(label, t, e),
         Mode::FirstOfSet => first_of_set(label, t, e),
         Mode::AfterNumber => after_number(label, t, e),
-        Mode::After => after_value(label, t, e),
+        Mode::InSequence => in_sequence(label, t, e),
+        Mode::InRow => in_row(label, t, e),
+        Mode::InSet => in_set(label, t, e),
         Mode::UnitName => unit_name(label, t, e),
         Mode::AfterUnit => after_unit(label, t, e),
         Mode::Exponent => exponent(label, t, e),

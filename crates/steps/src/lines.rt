@@ -1,4 +1,4 @@
-// Statements: names and their signs, the words that open and close a block, END, and what follows a value.
+// Statements: names and their signs, the words that open and close a block, END, and the sign that begins a unit.
 use crate::Mode;
 use crate::Nest;
 use crate::State;
@@ -11,16 +11,13 @@ use crate::moves::refuse;
 use crate::moves::sign_of;
 use crate::names::part;
 use crate::names::same_name;
-use crate::values::in_row;
-use crate::values::in_sequence;
-use crate::values::in_set;
 use blocks::Top;
 use elements::Element;
 use rows::Kind;
 use rows::Op;
 use rows::Row;
 ghost use mathlib.Core.Path.{_≡_};
-ghost use Rattle.rules.proofs.Grammar.Machine.{after, at-semicolon, at-equals, at-pointer, at-opener, at-opened, at-closer, at-closed, at-number, at-end};
+ghost use Rattle.rules.proofs.Grammar.Machine.{at-semicolon, at-equals, at-pointer, at-opener, at-opened, at-closer, at-closed, at-number, at-end};
 ghost use Rattle.elements.specs.Next.{nameAt};
 ghost use Rattle.rows.specs.Rows.{kindOf};
 ghost use Rattle.steps.specs.Signs.{signOf, Word};
@@ -134,36 +131,20 @@ pub fn begin(label: &[u8], t: State, e: Element) -> Stepped
     }
 }
 
-pub fn after_value(label: &[u8], t: State, e: Element) -> Stepped
-    ensures { λ r. ⌜ Does (now (label .entry)) t (after (placeIn (t .nest))) e r ⌝ }
-{
-    let nest = t.nest;
-    match nest {
-        Nest::Alone => begin(label, t, e),
-        Nest::Sequence => in_sequence(label, t, e),
-        Nest::Row => in_row(label, t, e),
-        Nest::Set => in_set(label, t, e),
-    }
-}
-
+// The sign that begins a unit: a number without one is met as what follows it.
 pub fn after_number(label: &[u8], t: State, e: Element) -> Stepped
+    requires { ⌜ signOf e ≡ 60 ⌝ }
     ensures { λ r. ⌜ Does (now (label .entry)) t (at-number (placeIn (t .nest))) e r ⌝ }
 {
-    let c = sign_of(e);
-    if c == 60 {
-        return awaiting_unit(t, Op::First, Row::Nothing);
-    }
-    after_value(label, t, e)
+    awaiting_unit(t, Op::First, Row::Nothing)
 }
 
+// The sign between a closing word and its name: a word without one is met as a statement.
 pub fn closed(label: &[u8], t: State, e: Element) -> Stepped
+    requires { ⌜ signOf e ≡ 61 ⌝ }
     ensures { λ r. ⌜ Does (now (label .entry)) t (at-closer (nameAt (now (label .entry)) (t .from) (t .upto))) e r ⌝ }
 {
-    let c = sign_of(e);
-    if c == 61 {
-        return awaiting(t, Mode::ClosingName, Row::Nothing);
-    }
-    begin(label, t, e)
+    awaiting(t, Mode::ClosingName, Row::Nothing)
 }
 
 pub fn closing_name(label: &[u8], t: State, e: Element) -> Stepped

@@ -12,7 +12,7 @@ ghost use mathlib.Core.Path.{_≡_};
 ghost use Prim.Native.Nat.{_-_};
 ghost use Rattle.elements.specs.Next.{placeOf};
 ghost use Rattle.steps.specs.Signs.{signOf, wordCode};
-ghost use Rattle.steps.specs.States.{moved, within, halted, unitNext, unitNamed, openingOf};
+ghost use Rattle.steps.specs.States.{followingIn, MetIn, moved, within, halted, unitNext, unitNamed, openingOf};
 
 fn less_one(a: usize) -> usize
     ensures { λ r. ⌜ r ≡ a - 1 ⌝ }
@@ -188,5 +188,52 @@ pub fn refuse(t: State, code: u8, e: Element) -> Stepped
     Stepped {
         state: t,
         row: Row::Stop(code, start_of(e)),
+    }
+}
+
+// What follows a scalar, by what it is a member of.
+pub fn following(nest: Nest) -> Mode
+    ensures { λ r. ⌜ r ≡ followingIn nest ⌝ }
+{
+    match nest {
+        Nest::Alone => Mode::Statement,
+        Nest::Sequence => Mode::InSequence,
+        Nest::Row => Mode::InRow,
+        Nest::Set => Mode::InSet,
+    }
+}
+
+// The scalar is done.
+pub fn scalar_done(t: State, row: Row) -> Stepped
+    ensures { λ r. ⌜ r ≡ moved t (followingIn (t .nest)) row ⌝ }
+{
+    let nest = t.nest;
+    awaiting(t, following(nest), row)
+}
+
+// The mode that an element is met in: a number need not have a unit, nor the word that closes a block a name, so an element that
+// is not the sign of one is met as what follows without it. With that told here, what follows is a mode like any other and its
+// function has one caller: one with several is kept out of line, and the state then goes through memory at each element.
+pub fn settled(t: State, e: Element) -> Mode
+    ensures { λ m. ⌜ MetIn t e m ⌝ }
+{
+    let mode = t.mode;
+    match mode {
+        Mode::Closed => {
+            let c = sign_of(e);
+            if c == 61 {
+                return mode;
+            }
+            Mode::Statement
+        }
+        Mode::AfterNumber => {
+            let c = sign_of(e);
+            if c == 60 {
+                return mode;
+            }
+            let nest = t.nest;
+            following(nest)
+        }
+        _ => mode,
     }
 }

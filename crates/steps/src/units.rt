@@ -5,6 +5,7 @@ use crate::Stepped;
 use crate::moves::awaiting;
 use crate::moves::awaiting_unit;
 use crate::moves::refuse;
+use crate::moves::scalar_done;
 use crate::moves::sign_of;
 use crate::moves::with_unit;
 use elements::Element;
@@ -41,7 +42,7 @@ pub fn after_unit(label: &[u8], t: State, e: Element) -> Stepped
         return awaiting_unit(t, Op::Divided, Row::Unit(op, a, b, false, 1));
     }
     if c == 62 {
-        return awaiting(t, Mode::After, Row::Unit(op, a, b, false, 1));
+        return scalar_done(t, Row::Unit(op, a, b, false, 1));
     }
     refuse(t, 6, e)
 }
@@ -72,7 +73,7 @@ pub fn after_exponent(label: &[u8], t: State, e: Element) -> Stepped
         return awaiting_unit(t, Op::Divided, Row::Nothing);
     }
     if c == 62 {
-        return awaiting(t, Mode::After, Row::Nothing);
+        return scalar_done(t, Row::Nothing);
     }
     refuse(t, 6, e)
 }

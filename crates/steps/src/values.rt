@@ -5,6 +5,7 @@ use crate::State;
 use crate::Stepped;
 use crate::moves::awaiting;
 use crate::moves::awaiting_in;
+use crate::moves::following;
 use crate::moves::refuse;
 use crate::moves::sign_of;
 use elements::Element;
@@ -12,17 +13,20 @@ use rows::Row;
 ghost use Rattle.rules.proofs.Grammar.Machine.{at-scalar, at-row, at-member, no-else, any-value, a-row, a-set-end, in-sequence, in-row, in-set};
 ghost use Rattle.steps.specs.States.{placeIn, Does};
 
+// What follows is found once, ahead of the arms.
 pub fn scalar(label: &[u8], t: State, e: Element) -> Stepped
     ensures { λ r. ⌜ Does (now (label .entry)) t (at-scalar (placeIn (t .nest)) no-else) e r ⌝ }
 {
+    let nest = t.nest;
+    let after = following(nest);
     match e {
-        Element::Name(a, b) => awaiting(t, Mode::After, Row::Symbol(a, b)),
+        Element::Name(a, b) => awaiting(t, after, Row::Symbol(a, b)),
         Element::Integer(m, v, _, _) => awaiting(t, Mode::AfterNumber, Row::Integer(m, v)),
         Element::Based(m, v, _, _) => awaiting(t, Mode::AfterNumber, Row::Integer(m, v)),
         Element::Float(x, _, _) => awaiting(t, Mode::AfterNumber, Row::Float(x)),
-        Element::Time(x, _, _) => awaiting(t, Mode::After, Row::Time(x)),
-        Element::Text(a, b) => awaiting(t, Mode::After, Row::Text(a, b)),
-        Element::Symbol(a, b) => awaiting(t, Mode::After, Row::Symbol(a, b)),
+        Element::Time(x, _, _) => awaiting(t, after, Row::Time(x)),
+        Element::Text(a, b) => awaiting(t, after, Row::Text(a, b)),
+        Element::Symbol(a, b) => awaiting(t, after, Row::Symbol(a, b)),
         _ => refuse(t, 6, e),
     }
 }

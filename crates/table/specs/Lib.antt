@@ -1,3 +1,4 @@
+-- The terms of this crate's contracts.
 pub mod Decoding
 pub mod Ordering
 pub mod Judging

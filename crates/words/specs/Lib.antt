@@ -1,3 +1,4 @@
+-- The terms of this crate's contracts.
 pub mod Says
 pub mod Parts
 pub mod Days

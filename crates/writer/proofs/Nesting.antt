@@ -2,16 +2,17 @@
 use Prim.Native.Nat.{ℕ, _+_, _≤_, _<_}
 use native.Mathlib.Omega.{arith}
 use mathlib.Core.Path.{_≡_, refl, sym, ap, _∙_}
-use mathlib.Core.List.{[], _∷_}
+use mathlib.Core.Bool.{Bool, true, false, not, false≢true}
+use mathlib.Core.List.{List, [], _∷_}
 use types.Run.{OneOf, miss}
 use denote.Enum.Declared.{tagOf, declared}
 use Rattle.rows.specs.declared.Kind.{Kind}
 use Rattle.rows.specs.declared.Row.{Row}
 use Rattle.rows.specs.declared.Row.the-variants as rows
 use Rattle.rows.proofs.Row.{enum}
-use Rattle.blocks.specs.Stack.{block, rest, blocksOf}
+use Rattle.blocks.specs.Stack.{Block, block, rest, blocksOf}
 use Rattle.blocks.specs.declared.Blocks.{Blocks}
-use Rattle.writer.specs.Passing.{nestedIn, Nested}
+use Rattle.writer.specs.Passing.{nestedIn, Nested, Nests}
 
 -- an opening that there is no room for
 none-there : (b : Blocks) (w : Row) (k : Kind) (x y : ℕ) → w ≡ rows.Open k x y → b .depth ≤ 80 → ((b .depth < 80) × (x ≤ 65535) × (y ≤ 65535) → ⊥) → Nested b w b
@@ -32,24 +33,40 @@ pushes b r w k x y e d h = record { deep = omega (arith, h .1); is = λ o. h .0 
 pub pops : (b r : Blocks) (w : Row) (k : Kind) → w ≡ rows.Close k → b .depth ≤ 80 → (blocksOf r ≡ rest (blocksOf b)) × (r .depth ≤ b .depth) → Nested b w r
 pops b r w k e d h = record { deep = omega (arith, h .1); is = λ o. h .0 ∙ ap (nestedIn (blocksOf b)) (sym e) }
 
-stays : (b : Blocks) (w : Row) → b .depth ≤ 80 → blocksOf b ≡ nestedIn (blocksOf b) w → Nested b w b
-stays b w d e = record { deep = d; is = λ o. e }
+-- any other row leaves the open blocks as they are
+kept : (w : Row) → OneOf (0 ∷ 1 ∷ 2 ∷ 5 ∷ 6 ∷ 7 ∷ 8 ∷ 9 ∷ 10 ∷ 11 ∷ 12 ∷ 13 ∷ 14 ∷ 15 ∷ 16 ∷ []) (tagOf (declared enum) w) → (bs : List Block) → nestedIn bs w ≡ bs
+kept rows.Nothing h bs = refl
+kept (rows.Attribute x y) h bs = refl
+kept (rows.Pointer x y) h bs = refl
+kept (rows.Open k x y) h bs = absurd (miss (0 ∷ 1 ∷ 2 ∷ 5 ∷ 6 ∷ 7 ∷ 8 ∷ 9 ∷ 10 ∷ 11 ∷ 12 ∷ 13 ∷ 14 ∷ 15 ∷ 16 ∷ []) 3 tt h)
+kept (rows.Close k) h bs = absurd (miss (0 ∷ 1 ∷ 2 ∷ 5 ∷ 6 ∷ 7 ∷ 8 ∷ 9 ∷ 10 ∷ 11 ∷ 12 ∷ 13 ∷ 14 ∷ 15 ∷ 16 ∷ []) 4 tt h)
+kept (rows.Integer m n) h bs = refl
+kept (rows.Float x) h bs = refl
+kept (rows.Time t) h bs = refl
+kept (rows.Text x y) h bs = refl
+kept (rows.Symbol x y) h bs = refl
+kept (rows.Unit o x y m n) h bs = refl
+kept rows.Sequence h bs = refl
+kept rows.SequenceEnd h bs = refl
+kept rows.Set h bs = refl
+kept rows.SetEnd h bs = refl
+kept (rows.Last n) h bs = refl
+kept (rows.Stop c p) h bs = refl
 
 pub others : (b : Blocks) (w : Row) → b .depth ≤ 80 → OneOf (0 ∷ 1 ∷ 2 ∷ 5 ∷ 6 ∷ 7 ∷ 8 ∷ 9 ∷ 10 ∷ 11 ∷ 12 ∷ 13 ∷ 14 ∷ 15 ∷ 16 ∷ []) (tagOf (declared enum) w) → Nested b w b
-others b rows.Nothing d h = stays b rows.Nothing d refl
-others b (rows.Attribute x y) d h = stays b (rows.Attribute x y) d refl
-others b (rows.Pointer x y) d h = stays b (rows.Pointer x y) d refl
-others b (rows.Open k x y) d h = absurd (miss (0 ∷ 1 ∷ 2 ∷ 5 ∷ 6 ∷ 7 ∷ 8 ∷ 9 ∷ 10 ∷ 11 ∷ 12 ∷ 13 ∷ 14 ∷ 15 ∷ 16 ∷ []) 3 tt h)
-others b (rows.Close k) d h = absurd (miss (0 ∷ 1 ∷ 2 ∷ 5 ∷ 6 ∷ 7 ∷ 8 ∷ 9 ∷ 10 ∷ 11 ∷ 12 ∷ 13 ∷ 14 ∷ 15 ∷ 16 ∷ []) 4 tt h)
-others b (rows.Integer m n) d h = stays b (rows.Integer m n) d refl
-others b (rows.Float x) d h = stays b (rows.Float x) d refl
-others b (rows.Time t) d h = stays b (rows.Time t) d refl
-others b (rows.Text x y) d h = stays b (rows.Text x y) d refl
-others b (rows.Symbol x y) d h = stays b (rows.Symbol x y) d refl
-others b (rows.Unit o x y m n) d h = stays b (rows.Unit o x y m n) d refl
-others b rows.Sequence d h = stays b rows.Sequence d refl
-others b rows.SequenceEnd d h = stays b rows.SequenceEnd d refl
-others b rows.Set d h = stays b rows.Set d refl
-others b rows.SetEnd d h = stays b rows.SetEnd d refl
-others b (rows.Last n) d h = stays b (rows.Last n) d refl
-others b (rows.Stop c p) d h = stays b (rows.Stop c p) d refl
+others b w d h = record { deep = d; is = λ o. sym (kept w h (blocksOf b)) }
+
+-- whether there is a block to open or close
+
+pub does-nest : (w : Row) → Nests w true
+does-nest w = record { still = λ e. absurd (false≢true (sym e)) }
+
+pub does-not-nest : (w : Row) → OneOf (0 ∷ 1 ∷ 2 ∷ 5 ∷ 6 ∷ 7 ∷ 8 ∷ 9 ∷ 10 ∷ 11 ∷ 12 ∷ 13 ∷ 14 ∷ 15 ∷ 16 ∷ []) (tagOf (declared enum) w) → Nests w false
+does-not-nest w h = record { still = λ e. kept w h }
+
+no : (r : Bool) → not r ≡ true → r ≡ false
+no true e = sym e
+no false e = refl
+
+pub not-nested : {b : Blocks} {w : Row} {r : Bool} → b .depth ≤ 80 → Nests w r → not r ≡ true → Nested b w b
+not-nested {b} {r = r} d n e = record { deep = d; is = λ o. sym (n .still (no r e) (blocksOf b)) }

@@ -174,13 +174,19 @@ pub record Walking (label lent before out : List ℕ) (q : printing.Prior) (b : 
   pub blocks : opensOf label (blocksOf b) ≡ open-after rule.outside (meaning label done)
   pub deep : b .depth ≤ 80
 
+-- the same, with the innermost block's name in hand
+pub record Between (label lent before out : List ℕ) (q : printing.Prior) (b : Blocks) (from upto at n : ℕ) : Type 0 where
+  pub walking : Walking label lent before out q b at n
+  pub start : from ≡ startOf (blocksOf b)
+  pub end : upto ≡ endOf (blocksOf b)
+
 told-bytes : {label lent : List ℕ} {rows : List rule.Row} → Ruled label lent (proper-rows rows) → lent ≡ table rows
 told-bytes (is-proper e p) = e
 
 told-proper : {label lent : List ℕ} {rows : List rule.Row} → Ruled label lent (proper-rows rows) → Proper label rows
 told-proper (is-proper e p) = p
 
-pub starts : (label lent out : List ℕ) (b : Blocks) → length label ≤ 65535 → Judges label lent checked.Proper → (blocksOf b ≡ []) × (b .depth ≡ 0) → Walking label lent out out priors.Start b 0 0
+starts : (label lent out : List ℕ) (b : Blocks) → length label ≤ 65535 → Judges label lent checked.Proper → (blocksOf b ≡ []) × (b .depth ≡ 0) → Walking label lent out out priors.Start b 0 0
 starts label lent out b s (judging.proper rs v) h = record {
   short = s;
   rows = rs;
@@ -196,6 +202,10 @@ starts label lent out b s (judging.proper rs v) h = record {
   blocks = ap (opensOf label) (h .0);
   deep = omega arith;
 }
+
+-- no block is open at the start, so there is no name
+pub begins : (label lent out : List ℕ) (b : Blocks) → length label ≤ 65535 → Judges label lent checked.Proper → (blocksOf b ≡ []) × (b .depth ≡ 0) → Between label lent out out priors.Start b 0 0 0 0
+begins label lent out b s j h = record { walking = starts label lent out b s j h; start = sym (ap startOf (h .0)); end = sym (ap endOf (h .0)) }
 
 -- every row's value and span are in order
 each-holds : {P : rule.Row → Type 0} (xs : List rule.Row) (r : rule.Row) (ys : List rule.Row) → Each P (xs ++ (r ∷ ys)) → P r

@@ -1,5 +1,6 @@
 -- What one pass over the rows of a proper table writes. Terms of private contracts.
 use Prim.Native.Nat.{ℕ, _≤_, _<_}
+use mathlib.Core.Bool.{Bool, false}
 use mathlib.Core.Path.{_≡_}
 use mathlib.Core.List.{List, [], _∷_, map}
 use lib.ListN.{length}
@@ -47,6 +48,10 @@ pub record Opens (b : Blocks) (row : Row) : Type 0 where
 pub record Nested (b : Blocks) (row : Row) (r : Blocks) : Type 0 where
   pub deep : r .depth ≤ 80
   pub is : Opens b row → blocksOf r ≡ nestedIn (blocksOf b) row
+
+-- a row that neither opens nor closes a block leaves the open ones as they are
+pub record Nests (row : Row) (r : Bool) : Type 0 where
+  pub still : r ≡ false → (bs : List Block) → nestedIn bs row ≡ bs
 
 -- the canonical label, where it fits the room; or that it is over 65,535 bytes
 pub data Written (label : List ℕ) (rows : List rule.Row) (before after : List ℕ) (n : ℕ) : Type 0 where

@@ -16,7 +16,7 @@ use table::row_at;
 ghost use Prim.Native.Nat.{_≤_};
 ghost use lib.ListN.{length};
 ghost use Rattle.table.specs.Judging.{Judges};
-ghost use Rattle.writer.specs.Passing.{Nested, Passed};
+ghost use Rattle.writer.specs.Passing.{Nested, Nests, Passed};
 
 // The blocks that are open after a row.
 fn nested(b: Blocks, row: Row) -> Blocks
@@ -41,34 +41,45 @@ fn nested(b: Blocks, row: Row) -> Blocks
     }
 }
 
-// The label's bytes are in the room where they fit; the count stops growing once it is over 65,535.
+// Whether a row opens or closes a block.
+fn nests(row: Row) -> bool
+    ensures { λ r. ⌜ Nests row r ⌝ }
+{
+    match row {
+        Row::Open(_, _, _) => true,
+        Row::Close(_) => true,
+        _ => false,
+    }
+}
+
+// The label's bytes are in the room where they fit; the count stops growing once it is over 65,535. From and upto hold the innermost block's name.
 pub fn pass(label: &[u8], lent: &[u8], out: &mut [u8]) -> usize
     requires { ⌜ (length (now label) ≤ 65535) × Judges (now label) (now lent) Checked.Proper ⌝ }
     ensures { λ r. ⌜ Passed (now (label .entry)) (now (lent .entry)) (now (out .entry)) (now (out .exit)) r ⌝ }
 {
     let mut q = Prior::Start;
     let mut b = no_blocks();
+    let mut from = 0;
+    let mut upto = 0;
     let mut at = 0;
     let mut n = 0;
     while at < lent.len() {
         let g = row_at(lent, at);
         let row = g.row;
         let k = least(n, out.len());
-        n += put_row(
-            &mut out[k..],
-            label,
-            q,
-            b.depth,
-            name_start(b),
-            name_end(b),
-            row,
-        );
+        n += put_row(&mut out[k..], label, q, b.depth, from, upto, row);
         if 65535 < n {
             return n;
         }
         q = prior_after(q, row);
-        b = nested(b, row);
         at = g.next;
+        // only a row that opens or closes a block is worth a copy of the arrays
+        if !nests(row) {
+            continue;
+        }
+        b = nested(b, row);
+        from = name_start(b);
+        upto = name_end(b);
     }
     let k = least(n, out.len());
     n + put_bytes(&mut out[k..], b"\r\n")

@@ -1,3 +1,4 @@
+-- `name_end` meets its contract.
 use Rattle.blocks.proofs.Opened.{stack}
 use borrow.Author.Needs.{needs}
 use Rattle.blocks.proofs.name_end.Statement.{statement}

@@ -1,3 +1,4 @@
+-- `name_start` meets its contract.
 use Rattle.blocks.proofs.Opened.{stack}
 use borrow.Author.Needs.{needs}
 use Rattle.blocks.proofs.name_start.Statement.{statement}

@@ -1,3 +1,4 @@
+-- `no_blocks` meets its contract.
 use Rattle.blocks.proofs.Opened.{stack}
 use Rattle.blocks.proofs.no_blocks.Statement.{statement}
 use Rattle.blocks.proofs.no_blocks.Tie as tie

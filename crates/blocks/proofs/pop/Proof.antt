@@ -1,3 +1,4 @@
+-- `pop` meets its contract.
 use Rattle.blocks.proofs.Opened.{stack}
 use borrow.Author.Needs.{needs}
 use Rattle.blocks.proofs.pop.Statement.{statement}

@@ -1,3 +1,4 @@
+-- `push` meets its contract.
 use Rattle.blocks.proofs.Opened.{stack}
 use borrow.Author.Needs.{needs}
 use Rattle.blocks.proofs.push.Statement.{statement}

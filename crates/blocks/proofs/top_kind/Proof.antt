@@ -1,3 +1,4 @@
+-- `top_kind` meets its contract.
 use Rattle.blocks.proofs.Opened.{stack}
 use Rattle.blocks.proofs.top_kind.Statement.{statement}
 use Rattle.blocks.proofs.top_kind.Tie as tie

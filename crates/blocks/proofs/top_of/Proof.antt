@@ -1,3 +1,4 @@
+-- `top_of` meets its contract.
 use Rattle.blocks.proofs.Opened.{stack}
 use borrow.Author.Needs.{needs}
 use Rattle.blocks.proofs.top_of.Statement.{statement}

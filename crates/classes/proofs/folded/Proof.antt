@@ -1,3 +1,4 @@
+-- `folded` meets its contract.
 use borrow.Author.Needs.{needs}
 use Rattle.classes.proofs.Folds.{lower-least, fold-yes, fold-no}
 use Rattle.classes.proofs.folded.Statement.{statement}

@@ -1,3 +1,4 @@
+-- `spells` meets its contract.
 use Prim.Native.Nat.{_-_}
 use lib.ListN.{length}
 use Rattle.classes.proofs.Folds.{Sames}

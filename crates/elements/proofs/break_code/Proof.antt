@@ -1,3 +1,4 @@
+-- `break_code` meets its contract.
 use borrow.Author.Needs.{needs}
 use Rattle.elements.proofs.break_code.Statement.{statement}
 use Rattle.elements.proofs.break_code.Tie as tie

@@ -1,3 +1,4 @@
+-- `element_at` meets its contract.
 use borrow.Author.Needs.{needs}
 use Rattle.elements.proofs.element_at.Statement.{statement}
 use Rattle.elements.proofs.element_at.Tie as tie

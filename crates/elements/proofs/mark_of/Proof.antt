@@ -1,3 +1,4 @@
+-- `mark_of` meets its contract.
 use mathlib.Core.Path.{refl}
 use borrow.Author.Needs.{needs}
 use Rattle.elements.specs.Places.{m-star, m-slash, m-quote, m-apostrophe}

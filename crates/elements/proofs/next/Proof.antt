@@ -1,3 +1,4 @@
+-- `next` meets its contract.
 use borrow.Author.Needs.{needs}
 use Rattle.elements.proofs.next.Statement.{statement}
 use Rattle.elements.proofs.next.Tie as tie

@@ -1,3 +1,4 @@
+-- `remark` meets its contract.
 use borrow.Author.Needs.{needs}
 use Rattle.elements.proofs.remark.Statement.{statement}
 use Rattle.elements.proofs.remark.Tie as tie

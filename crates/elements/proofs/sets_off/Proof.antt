@@ -1,3 +1,4 @@
+-- `sets_off` meets its contract.
 use borrow.Author.Needs.{needs}
 use Rattle.elements.proofs.sets_off.Statement.{statement}
 use Rattle.elements.proofs.sets_off.Tie as tie

@@ -1,3 +1,4 @@
+-- `skip_gap` meets its contract.
 use Prim.Native.Nat.{_-_}
 use lib.ListN.{length}
 use Rattle.elements.proofs.Gaps.{Skipping}

@@ -1,3 +1,4 @@
+-- `star_at` meets its contract.
 use borrow.Author.Needs.{needs}
 use Rattle.elements.proofs.star_at.Statement.{statement}
 use Rattle.elements.proofs.star_at.Tie as tie

@@ -1,3 +1,4 @@
+-- `symbol_at` meets its contract.
 use borrow.Author.Needs.{needs}
 use Rattle.elements.proofs.symbol_at.Statement.{statement}
 use Rattle.elements.proofs.symbol_at.Tie as tie

@@ -1,3 +1,4 @@
+-- `text_at` meets its contract.
 use borrow.Author.Needs.{needs}
 use Rattle.elements.proofs.text_at.Statement.{statement}
 use Rattle.elements.proofs.text_at.Tie as tie

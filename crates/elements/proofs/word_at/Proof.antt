@@ -1,3 +1,4 @@
+-- `word_at` meets its contract.
 use borrow.Author.Needs.{needs}
 use Rattle.elements.proofs.word_at.Statement.{statement}
 use Rattle.elements.proofs.word_at.Tie as tie

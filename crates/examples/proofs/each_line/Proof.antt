@@ -1,3 +1,4 @@
+-- `each_line` meets its contract.
 use Prim.Native.Nat.{_+_, _-_, _≤_}
 use lib.ListN.{length}
 use borrow.Author.Needs.{needs}

@@ -1,3 +1,4 @@
+-- `part_of` meets its contract.
 use borrow.Author.Needs.{needs}
 use Rattle.printing.proofs.part_of.Statement.{statement}
 use Rattle.printing.proofs.part_of.Tie as tie

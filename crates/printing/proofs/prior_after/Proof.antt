@@ -1,3 +1,4 @@
+-- `prior_after` meets its contract.
 use borrow.Author.Needs.{needs}
 use Rattle.printing.proofs.prior_after.Statement.{statement}
 use Rattle.printing.proofs.prior_after.Tie as tie

@@ -1,3 +1,4 @@
+-- `put_row` meets its contract.
 use borrow.Author.Needs.{needs}
 use Rattle.printing.proofs.put_row.Statement.{statement}
 use Rattle.printing.proofs.put_row.Tie as tie

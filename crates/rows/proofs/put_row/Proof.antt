@@ -1,3 +1,4 @@
+-- `put_row` meets its contract.
 use Rattle.rows.proofs.Puts.{rowed}
 use borrow.Author.Needs.{needs}
 use Rattle.rows.proofs.put_row.Statement.{statement}

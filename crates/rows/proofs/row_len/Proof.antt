@@ -1,3 +1,4 @@
+-- `row_len` meets its contract.
 use Rattle.rows.proofs.Puts.{lengths}
 use borrow.Author.Needs.{needs}
 use Rattle.rows.proofs.row_len.Statement.{statement}

@@ -9,11 +9,13 @@ use lib.Dec.{eqb}
 use lib.ListN.{length, length-append, take, drop}
 use lib.Seq.{take-append-seam, drop-append-seam}
 use Rattle.rules.specs.Bytes.{front, pair, Run, stops, goes-on}
-use Rattle.rules.specs.Data.{Elem, Placed, Row}
+use Rattle.rules.specs.Data.{Elem, Placed, _on_, Row, Span}
 use Rattle.rules.specs.Modes.{Mode}
 use Rattle.rules.specs.Words.{Form}
-use Rattle.rules.specs.Elements.{inComment, inLine, inText, inSymbol, inWord, setsOff, Comment, comment, Gap, no-gap, blank, remark, Spells, word, sign, one-star, two-stars, one-slash, quoted-text, quoted-symbol, Cut, none-more, next}
-use Rattle.rules.specs.Reading.{Outcome, accepted, Judged, follows, Reads, read}
+use Rattle.rules.specs.Elements.{inComment, inLine, inText, inSymbol, inWord, setsOff, Comment, comment, Gap, no-gap, blank, remark, Spells, word, sign, one-star, two-stars, one-slash, quoted-text, quoted-symbol, Cut, none-more, next, Breaks, open-at-end, open-at, foreign, Fault, no-element, no-form, past-limit, broken-text, broken-symbol, broken-comment, empty-symbol, long-symbol}
+use Rattle.rules.specs.Faults.{PastLimit, exponent-past, name-differs, too-deep, begun-too-deep, not-set-off, Code, cannot-stand, past-limit as beyond-limit}
+use Rattle.rules.specs.Reading.{accepted, refused, Judged, follows, misspelled, misplaced, ends-early, Reads, read}
+use Rattle.rules.proofs.Reading.EndWord.{end-size}
 
 -- two lists that begin with the same byte
 pub data Alike : List ℕ → List ℕ → Type 0 where
@@ -99,3 +101,57 @@ module _ (m : Mode) (a x y : List ℕ) (b : ℕ) where
   -- an accepted label: whatever follows the byte after END
   pub reads-beyond : {rows : List Row} → length (a ++ b ∷ y) ≤ 65535 → Reads m (a ++ b ∷ x) (accepted rows (length a)) → Reads m (a ++ b ∷ y) (accepted rows (length a))
   reads-beyond h (read k j) = read h (judged-beyond j)
+
+-- ---- an END that is not set off
+
+no-nine : {c : ℕ} → c ≤ 5 → c ≡ 9 → ⊥
+no-nine h e = omega arith
+
+breaks-small : {c : ℕ → Bool} {r : List ℕ} {n : ℕ} → Breaks c r n → n ≤ 5
+breaks-small open-at-end = omega arith
+breaks-small (open-at h) = omega arith
+breaks-small (foreign h) = omega arith
+
+-- bytes that spell no element have other codes
+fault-small : {m : Mode} {r : List ℕ} {n : ℕ} → Fault m r n → n ≤ 5
+fault-small (no-element h) = omega arith
+fault-small (no-form x h) = omega arith
+fault-small (past-limit x h) = omega arith
+fault-small (broken-text x h b) = breaks-small b
+fault-small (broken-symbol x h b) = breaks-small b
+fault-small (broken-comment x h b) = breaks-small b
+fault-small empty-symbol = omega arith
+fault-small (long-symbol x h) = omega arith
+
+-- 9 is the code of END
+limit-end : {m : Mode} {w r : List ℕ} {e : Elem} {q n : ℕ} → PastLimit e n → n ≡ 9 → Spells m w e q r → length w ≡ 3
+limit-end exponent-past k s = absurd (omega arith)
+limit-end name-differs k s = absurd (omega arith)
+limit-end (too-deep d) k s = absurd (omega arith)
+limit-end (begun-too-deep d) k s = absurd (omega arith)
+limit-end not-set-off k s = end-size s
+
+element-end : {m : Mode} {es : List Placed} {w r : List ℕ} {e : Elem} {p : Span} {q n : ℕ} → Code m es (e on p) n → n ≡ 9 → Spells m w e q r → length w ≡ 3
+element-end (cannot-stand h) k s = absurd (omega arith)
+element-end (beyond-limit v l) k s = limit-end l k s
+
+seam : (u g w r : List ℕ) → u ++ (g ++ (w ++ r)) ≡ (u ++ (g ++ w)) ++ r
+seam u g w r = simp append-assoc
+
+module _ (m : Mode) (a x y : List ℕ) (b : ℕ) where
+  unset : {n p : ℕ} → n ≡ 9 → p + 3 ≡ length a → Judged m (a ++ b ∷ x) (refused n p) → Judged m (a ++ b ∷ y) (refused n p)
+  unset k h (misspelled c u g f) = absurd (no-nine (fault-small f) k)
+  unset k h (misplaced {i} {c = n} {es = es} {g = g} {w = w} {r = r} c u v s f) =
+      let t = cuts c in
+      let three : length w ≡ 3 = element-end (f .code) k s in
+      let z : length a ≡ length (t .bytes ++ (g ++ w)) = omega (arith, h, three, t .size, length-append (t .bytes) (g ++ w), length-append g w) in
+      let e = same-length a (t .bytes ++ (g ++ w)) (b ∷ x) r (t .is ∙ seam (t .bytes) g w r) z in
+      let l : Alike r (b ∷ y) = subst (λ (q : List ℕ). Alike q (b ∷ y)) (e .1) alike in
+      let j : Judged m (t .bytes ++ (g ++ (w ++ b ∷ y))) (refused n (i + length g)) =
+      misplaced (t .others (g ++ (w ++ b ∷ y)) (behind g (behind w l))) u (gap-alike v (behind w l)) (spells-alike s l) f in
+      subst (λ (q : List ℕ). Judged m q (refused n (i + length g))) (seam (t .bytes) g w (b ∷ y) ∙ ap (λ (q : List ℕ). q ++ b ∷ y) (sym (e .0))) j
+  unset k h (ends-early c u g) = absurd (omega arith)
+
+  -- a label refused for an END that is not set off: whatever follows the byte after it
+  pub unset-beyond : {p : ℕ} → p + 3 ≡ length a → length (a ++ b ∷ y) ≤ 65535 → Reads m (a ++ b ∷ x) (refused 9 p) → Reads m (a ++ b ∷ y) (refused 9 p)
+  unset-beyond h l (read k j) = read l (unset refl h j)

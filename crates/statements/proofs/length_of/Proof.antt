@@ -1,3 +1,4 @@
+-- `length_of` meets its contract.
 use Rattle.statements.proofs.Codes.{no-length}
 use borrow.Author.Needs.{needs}
 use Rattle.statements.proofs.length_of.Statement.{statement}

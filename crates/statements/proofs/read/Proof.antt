@@ -1,5 +1,6 @@
+-- The reader: each way out, from the first pass and, where its room was too short, from the second.
 use native.Mathlib.Omega.{arith}
-use Rattle.statements.proofs.Answers.{not-read-long, refusal-stands, short, copied, direct}
+use Rattle.statements.proofs.Answers.{not-read-long, carried, refusal-stands, short, copied, resumed}
 use borrow.Author.Needs.{needs}
 use Rattle.statements.proofs.read.Statement.{statement}
 use Rattle.statements.proofs.read.Tie as tie
@@ -7,17 +8,23 @@ use Rattle.statements.proofs.read.Tie as tie
 returns : tie.Need-returns
 returns c = not-read-long _ _ (c .if1 .taken)
 
+pass-requires : tie.Need-pass-requires
+pass-requires c κs = (c .before .before .if1 .left, c .start .ensures _ _)
+
 returns-2 : tie.Need-returns-2
-returns-2 c = refusal-stands (c .before .before .before .before .before .before .before .args .table .now) (c .before .before .before .before .if1 .left) (c .before .before .pass .ensures) (c .match .keys2)
+returns-2 c = refusal-stands (c .before .before .before .before .before .before .before .before .args .table .now) (c .before .before .before .before .before .if1 .left) (c .before .before .pass .ensures .passed) (c .match .keys2)
 
 returns-3 : tie.Need-returns-3
-returns-3 c = short (c .before .before .before .before .before .before .before .before .before .before .args .table .now) (c .before .before .before .before .before .before .before .if1 .left) (c .before .before .before .before .before .pass .ensures) (c .before .before .r .given .1) (c .if2 .taken)
+returns-3 c = short (c .before .before .before .before .before .before .before .before .before .before .before .args .table .now) (c .before .before .before .before .before .before .before .before .if1 .left) (c .before .before .before .before .before .pass .ensures .passed) (c .before .before .r .given .1) (c .if2 .taken)
 
 returns-4 : tie.Need-returns-4
-returns-4 c = copied (c .before .before .before .before .before .before .before .before .before .before .before .before .before .before .before .before .args .table .now) (c .before .before .before .before .before .before .before .before .before .before .before .before .before .if1 .left) (c .before .before .before .before .before .before .before .before .before .before .before .pass .ensures) (c .before .before .before .before .before .before .before .before .r .given .1) (omega arith) (omega arith) (c .before .before .copy .ensures)
+returns-4 c = copied (c .before .before .before .before .before .before .before .before .before .before .before .before .before .before .before .before .before .args .table .now) (c .before .before .before .before .before .before .before .before .before .before .before .before .before .before .if1 .left) (c .before .before .before .before .before .before .before .before .before .before .before .pass .ensures .passed) (c .before .before .before .before .before .before .before .before .r .given .1) (omega arith) (omega arith) (c .before .before .copy .ensures)
+
+pass-requires-2 : tie.Need-pass-requires-2
+pass-requires-2 c κs = (c .before .before .before .before .before .before .before .before .before .before .before .before .before .before .before .before .if1 .left, carried (c .before .before .before .before .before .before .before .before .before .before .before .before .before .before .before .before .before .before .before .args .table .now) (c .before .before .before .before .before .before .before .before .before .before .before .before .before .pass .ensures .full) (omega (arith, c .before .before .before .before .before .before .before .before .before .before .before .before .before .pass .ensures .full .fits, c .before .before .before .before .before .before .before .before .before .before .before .before .before .pass .kept)) (c .before .before .before .copy2 .ensures))
 
 returns-5 : tie.Need-returns-5
-returns-5 c = direct (c .before .before .before .before .before .before .before .before .before .before .before .before .before .before .before .args .table .now) (c .before .before .before .before .before .before .before .before .before .before .before .before .if1 .left) (c .before .before .before .before .before .before .before .before .before .before .pass .ensures) (c .before .before .before .before .before .before .before .r .given .1) (omega arith) (c .before .before .pass2 .ensures)
+returns-5 c = resumed (c .before .before .before .before .before .before .before .before .before .before .before .before .before .before .before .before .before .before .before .before .before .before .args .table .now) (c .before .before .before .before .before .before .before .before .before .before .before .before .before .before .before .before .before .before .before .if1 .left) (c .before .before .before .before .before .before .before .before .before .before .before .before .before .before .before .before .pass .ensures .passed) (c .before .before .before .before .before .before .before .before .before .before .before .before .before .r .given .1) (omega arith) (c .before .before .before .before .before .before .before .before .before .before .before .before .before .before .before .before .pass .ensures .full .fits) (omega (arith, c .before .before .before .before .before .before .before .before .before .before .before .before .before .before .before .before .pass .ensures .full .fits, c .before .before .before .before .before .before .before .before .before .before .before .before .before .before .before .before .pass .kept)) (c .before .before .before .before .before .before .copy2 .ensures) (c .before .before .pass2 .ensures .passed)
 
 pub read-spec : {M : Type 1} → statement M
 read-spec =
@@ -26,6 +33,7 @@ read-spec =
     returns
     (λ c. search needs)
     (λ c κs. search needs)
+    pass-requires
     (λ c. search needs)
     returns-2
     returns-3
@@ -33,6 +41,8 @@ read-spec =
     (λ c κs. search needs)
     (λ c. search needs)
     returns-4
+    (λ c. search needs)
     (λ c κs. search needs)
+    pass-requires-2
     (λ c. search needs)
     returns-5)

@@ -1,3 +1,4 @@
+-- `good` meets its contract.
 use borrow.Author.Needs.{needs}
 use Rattle.table.proofs.good.Statement.{statement}
 use Rattle.table.proofs.good.Tie as tie

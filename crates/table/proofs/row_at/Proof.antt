@@ -1,3 +1,4 @@
+-- `row_at` meets its contract.
 use Rattle.table.proofs.RowsRead.{rowed}
 use borrow.Author.Needs.{needs}
 use Rattle.table.proofs.row_at.Statement.{statement}

@@ -1,3 +1,4 @@
+-- `value_of` meets its contract.
 use borrow.Author.Needs.{needs}
 use Rattle.words.proofs.value_of.Statement.{statement}
 use Rattle.words.proofs.value_of.Tie as tie

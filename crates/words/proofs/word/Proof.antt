@@ -1,3 +1,4 @@
+-- `word` meets its contract.
 use borrow.Author.Needs.{needs}
 use Rattle.words.proofs.word.Statement.{statement}
 use Rattle.words.proofs.word.Tie as tie

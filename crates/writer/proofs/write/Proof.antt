@@ -1,3 +1,4 @@
+-- `write` meets its contract.
 use native.Mathlib.Omega.{arith}
 use Rattle.writer.proofs.Rooms.{over, not-proper, is-proper}
 use borrow.Author.Needs.{needs}

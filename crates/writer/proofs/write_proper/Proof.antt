@@ -1,3 +1,4 @@
+-- `write_proper` meets its contract.
 use native.Mathlib.Omega.{arith}
 use mathlib.Core.Path.{refl}
 use Rattle.writer.proofs.Rooms.{too-long, no-room, copied, passed-again}

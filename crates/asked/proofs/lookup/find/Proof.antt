@@ -1,3 +1,4 @@
+-- `lookup::find` meets its contract.
 use Rattle.asked.proofs.Lookups.{found-long, found-improper, found-proper}
 use borrow.Author.Needs.{needs}
 use Rattle.asked.proofs.lookup.find.Statement.{statement}

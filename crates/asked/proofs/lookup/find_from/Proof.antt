@@ -1,3 +1,4 @@
+-- `lookup::find_from` meets its contract.
 use Rattle.asked.proofs.Lookups.{finds-line, finds-none}
 use borrow.Author.Needs.{needs}
 use Rattle.asked.proofs.lookup.find_from.Statement.{statement}

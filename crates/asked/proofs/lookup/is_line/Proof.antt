@@ -1,3 +1,4 @@
+-- `lookup::is_line` meets its contract.
 use borrow.Author.Needs.{needs}
 use Rattle.asked.proofs.lookup.is_line.Statement.{statement}
 use Rattle.asked.proofs.lookup.is_line.Tie as tie

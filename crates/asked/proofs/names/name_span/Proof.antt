@@ -1,3 +1,4 @@
+-- `names::name_span` meets its contract.
 use Rattle.asked.proofs.Displays.{view-long, view-improper, view-proper}
 use borrow.Author.Needs.{needs}
 use Rattle.asked.proofs.names.name_span.Statement.{statement}

@@ -1,3 +1,4 @@
+-- `names::stretch_of` meets its contract.
 use borrow.Author.Needs.{needs}
 use Rattle.asked.proofs.names.stretch_of.Statement.{statement}
 use Rattle.asked.proofs.names.stretch_of.Tie as tie

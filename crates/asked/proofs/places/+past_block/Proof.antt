@@ -1,3 +1,4 @@
+-- `places::+past_block` meets its contract.
 use Prim.Native.Nat.{ℕ, _<_, _-_}
 use native.Mathlib.Omega.{arith}
 use borrow.Author.Needs.{needs}

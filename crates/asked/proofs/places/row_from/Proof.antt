@@ -1,3 +1,4 @@
+-- `places::row_from` meets its contract.
 use Rattle.asked.proofs.Sighted.{Walks}
 use Prim.Native.Nat.{_-_}
 use borrow.Author.Needs.{needs}

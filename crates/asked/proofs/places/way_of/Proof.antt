@@ -1,3 +1,4 @@
+-- `places::way_of` meets its contract.
 use borrow.Author.Needs.{needs}
 use Rattle.asked.proofs.places.way_of.Statement.{statement}
 use Rattle.asked.proofs.places.way_of.Tie as tie

@@ -1,3 +1,4 @@
+-- `spelling::alike` meets its contract.
 use Rattle.asked.proofs.Spelled.{Alike}
 use Prim.Native.Nat.{_-_}
 use lib.ListN.{length}

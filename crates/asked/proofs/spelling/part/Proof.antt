@@ -1,3 +1,4 @@
+-- `spelling::part` meets its contract.
 use borrow.Author.Needs.{needs}
 use Rattle.asked.proofs.spelling.part.Statement.{statement}
 use Rattle.asked.proofs.spelling.part.Tie as tie

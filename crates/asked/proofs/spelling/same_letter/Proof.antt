@@ -1,3 +1,4 @@
+-- `spelling::same_letter` meets its contract.
 use borrow.Author.Needs.{needs}
 use Rattle.asked.proofs.spelling.same_letter.Statement.{statement}
 use Rattle.asked.proofs.spelling.same_letter.Tie as tie

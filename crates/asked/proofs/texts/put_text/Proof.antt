@@ -1,3 +1,4 @@
+-- `texts::put_text` meets its contract.
 use Rattle.asked.proofs.Displays.{room-short, room-fits}
 use borrow.Author.Needs.{needs}
 use Rattle.asked.proofs.texts.put_text.Statement.{statement}

@@ -1,3 +1,4 @@
+-- `texts::text` meets its contract.
 use Rattle.asked.proofs.Displays.{text-long, text-improper, text-proper}
 use borrow.Author.Needs.{needs}
 use Rattle.asked.proofs.texts.text.Statement.{statement}

@@ -1,3 +1,4 @@
+-- `texts::text_from` meets its contract.
 use Rattle.asked.proofs.Displays.{text-shown, text-none}
 use borrow.Author.Needs.{needs}
 use Rattle.asked.proofs.texts.text_from.Statement.{statement}

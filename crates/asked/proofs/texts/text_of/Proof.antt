@@ -1,3 +1,4 @@
+-- `texts::text_of` meets its contract.
 use borrow.Author.Needs.{needs}
 use Rattle.asked.proofs.texts.text_of.Statement.{statement}
 use Rattle.asked.proofs.texts.text_of.Tie as tie

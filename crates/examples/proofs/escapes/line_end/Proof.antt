@@ -1,3 +1,4 @@
+-- `escapes::line_end` meets its contract.
 use Prim.Native.Nat.{_-_, _≤_}
 use lib.ListN.{length}
 use borrow.Author.Needs.{needs}

@@ -1,3 +1,4 @@
+-- `print::print_padded` meets its contract.
 use Prim.Native.Nat.{_-_, _≤_}
 use borrow.Author.Needs.{needs}
 use Rattle.examples.proofs.print.print_padded.Statement.{statement}

@@ -1,3 +1,4 @@
+-- `wording::print_rows` meets its contract.
 use Prim.Native.Nat.{_-_, _≤_}
 use lib.ListN.{length}
 use borrow.Author.Needs.{needs}

@@ -1,3 +1,4 @@
+-- `bytes::put_byte` meets its contract.
 use borrow.Author.Needs.{needs}
 use Rattle.parts.proofs.bytes.put_byte.Statement.{statement}
 use Rattle.parts.proofs.bytes.put_byte.Tie as tie

@@ -1,3 +1,4 @@
+-- `bytes::put_bytes` meets its contract.
 use Rattle.parts.proofs.Copies.{Copied}
 use Prim.Native.Nat.{_-_}
 use lib.ListN.{length}

@@ -1,3 +1,4 @@
+-- `bytes::put_folded` meets its contract.
 use Rattle.parts.proofs.Copies.{Folding}
 use Prim.Native.Nat.{_-_}
 use lib.ListN.{length}

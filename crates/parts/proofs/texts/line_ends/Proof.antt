@@ -1,3 +1,4 @@
+-- `texts::line_ends` meets its contract.
 use Rattle.parts.proofs.Reassembly.{Next}
 use Prim.Native.Nat.{_-_}
 use lib.ListN.{length}

@@ -1,3 +1,4 @@
+-- `texts::put_if` meets its contract.
 use borrow.Author.Needs.{needs}
 use Rattle.parts.proofs.texts.put_if.Statement.{statement}
 use Rattle.parts.proofs.texts.put_if.Tie as tie

@@ -1,3 +1,4 @@
+-- `texts::put_reassembled` meets its contract.
 use Rattle.parts.proofs.Reassembly.{Joining}
 use Prim.Native.Nat.{_-_}
 use lib.ListN.{length}

@@ -1,3 +1,4 @@
+-- `texts::run_breaks` meets its contract.
 use Rattle.parts.proofs.Reassembly.{Breaks}
 use Prim.Native.Nat.{_-_}
 use lib.ListN.{length}

@@ -1,3 +1,4 @@
+-- `texts::turn_of` meets its contract.
 use borrow.Author.Needs.{needs}
 use Rattle.parts.proofs.texts.turn_of.Statement.{statement}
 use Rattle.parts.proofs.texts.turn_of.Tie as tie

@@ -1,3 +1,4 @@
+-- `lines::put_gap` meets its contract.
 use borrow.Author.Needs.{needs}
 use Rattle.printing.proofs.lines.put_gap.Statement.{statement}
 use Rattle.printing.proofs.lines.put_gap.Tie as tie

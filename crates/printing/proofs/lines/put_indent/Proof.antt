@@ -1,3 +1,4 @@
+-- `lines::put_indent` meets its contract.
 use borrow.Author.Needs.{needs}
 use Prim.Native.Nat.{_-_}
 use Rattle.printing.proofs.Between.{Indenting, indent-start, indent-turn, indent-end}

@@ -1,3 +1,4 @@
+-- `lines::put_lead` meets its contract.
 use borrow.Author.Needs.{needs}
 use Rattle.printing.proofs.lines.put_lead.Statement.{statement}
 use Rattle.printing.proofs.lines.put_lead.Tie as tie

@@ -1,3 +1,4 @@
+-- `lines::put_line` meets its contract.
 use borrow.Author.Needs.{needs}
 use Rattle.printing.proofs.lines.put_line.Statement.{statement}
 use Rattle.printing.proofs.lines.put_line.Tie as tie

@@ -1,3 +1,4 @@
+-- `lines::put_line_break` meets its contract.
 use borrow.Author.Needs.{needs}
 use Rattle.printing.proofs.lines.put_line_break.Statement.{statement}
 use Rattle.printing.proofs.lines.put_line_break.Tie as tie

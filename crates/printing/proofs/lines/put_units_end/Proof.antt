@@ -1,3 +1,4 @@
+-- `lines::put_units_end` meets its contract.
 use borrow.Author.Needs.{needs}
 use Rattle.printing.proofs.lines.put_units_end.Statement.{statement}
 use Rattle.printing.proofs.lines.put_units_end.Tie as tie

@@ -1,3 +1,4 @@
+-- `numbers::digit_count` meets its contract.
 use Rattle.printing.proofs.Digits.{Counting}
 use borrow.Author.Needs.{needs}
 use Rattle.printing.proofs.numbers.digit_count.Statement.{statement}

@@ -1,3 +1,4 @@
+-- `numbers::put_decimal` meets its contract.
 use borrow.Author.Needs.{needs}
 use Rattle.printing.proofs.numbers.put_decimal.Statement.{statement}
 use Rattle.printing.proofs.numbers.put_decimal.Tie as tie

@@ -1,3 +1,4 @@
+-- `numbers::put_digits` meets its contract.
 use borrow.Author.Needs.{needs}
 use Rattle.printing.proofs.numbers.put_digits.Statement.{statement}
 use Rattle.printing.proofs.numbers.put_digits.Tie as tie

@@ -1,3 +1,4 @@
+-- `numbers::put_power` meets its contract.
 use borrow.Author.Needs.{needs}
 use Rattle.printing.proofs.numbers.put_power.Statement.{statement}
 use Rattle.printing.proofs.numbers.put_power.Tie as tie

@@ -1,3 +1,4 @@
+-- `numbers::put_real` meets its contract.
 use borrow.Author.Needs.{needs}
 use Rattle.printing.proofs.numbers.put_real.Statement.{statement}
 use Rattle.printing.proofs.numbers.put_real.Tie as tie

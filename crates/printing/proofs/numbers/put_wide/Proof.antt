@@ -1,3 +1,4 @@
+-- `numbers::put_wide` meets its contract.
 use Rattle.printing.proofs.Digits.{Wide, wide-end}
 use borrow.Author.Needs.{needs}
 use Rattle.printing.proofs.numbers.put_wide.Statement.{statement}

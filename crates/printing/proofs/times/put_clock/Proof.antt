@@ -1,3 +1,4 @@
+-- `times::put_clock` meets its contract.
 use borrow.Author.Needs.{needs}
 use Rattle.printing.proofs.times.put_clock.Statement.{statement}
 use Rattle.printing.proofs.times.put_clock.Tie as tie

@@ -1,3 +1,4 @@
+-- `times::put_date` meets its contract.
 use borrow.Author.Needs.{needs}
 use Rattle.printing.proofs.times.put_date.Statement.{statement}
 use Rattle.printing.proofs.times.put_date.Tie as tie

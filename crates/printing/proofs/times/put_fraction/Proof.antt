@@ -1,3 +1,4 @@
+-- `times::put_fraction` meets its contract.
 use borrow.Author.Needs.{needs}
 use Rattle.printing.proofs.times.put_fraction.Statement.{statement}
 use Rattle.printing.proofs.times.put_fraction.Tie as tie

@@ -1,3 +1,4 @@
+-- `times::put_moment` meets its contract.
 use borrow.Author.Needs.{needs}
 use Rattle.printing.proofs.times.put_moment.Statement.{statement}
 use Rattle.printing.proofs.times.put_moment.Tie as tie

@@ -1,3 +1,4 @@
+-- `times::put_time` meets its contract.
 use borrow.Author.Needs.{needs}
 use Rattle.printing.proofs.times.put_time.Statement.{statement}
 use Rattle.printing.proofs.times.put_time.Tie as tie

@@ -1,3 +1,4 @@
+-- `times::put_two` meets its contract.
 use borrow.Author.Needs.{needs}
 use Rattle.printing.proofs.times.put_two.Statement.{statement}
 use Rattle.printing.proofs.times.put_two.Tie as tie

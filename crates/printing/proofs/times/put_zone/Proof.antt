@@ -1,3 +1,4 @@
+-- `times::put_zone` meets its contract.
 use borrow.Author.Needs.{needs}
 use Rattle.printing.proofs.times.put_zone.Statement.{statement}
 use Rattle.printing.proofs.times.put_zone.Tie as tie

@@ -1,3 +1,4 @@
+-- `times::trim` meets its contract.
 use Rattle.printing.proofs.Digits.{Trimming}
 use borrow.Author.Needs.{needs}
 use Rattle.printing.proofs.times.trim.Statement.{statement}

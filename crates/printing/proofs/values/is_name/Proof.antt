@@ -1,3 +1,4 @@
+-- `values::is_name` meets its contract.
 use borrow.Author.Needs.{needs}
 use Rattle.printing.proofs.values.is_name.Statement.{statement}
 use Rattle.printing.proofs.values.is_name.Tie as tie

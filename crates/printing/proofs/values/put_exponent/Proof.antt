@@ -1,3 +1,4 @@
+-- `values::put_exponent` meets its contract.
 use borrow.Author.Needs.{needs}
 use Rattle.printing.proofs.values.put_exponent.Statement.{statement}
 use Rattle.printing.proofs.values.put_exponent.Tie as tie

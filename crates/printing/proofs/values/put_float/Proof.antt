@@ -1,3 +1,4 @@
+-- `values::put_float` meets its contract.
 use borrow.Author.Needs.{needs}
 use Rattle.printing.proofs.values.put_float.Statement.{statement}
 use Rattle.printing.proofs.values.put_float.Tie as tie

@@ -1,3 +1,4 @@
+-- `values::put_integer` meets its contract.
 use borrow.Author.Needs.{needs}
 use Rattle.printing.proofs.values.put_integer.Statement.{statement}
 use Rattle.printing.proofs.values.put_integer.Tie as tie

@@ -1,3 +1,4 @@
+-- `values::put_marked` meets its contract.
 use borrow.Author.Needs.{needs}
 use Rattle.printing.proofs.values.put_marked.Statement.{statement}
 use Rattle.printing.proofs.values.put_marked.Tie as tie

@@ -1,3 +1,4 @@
+-- `values::put_op` meets its contract.
 use borrow.Author.Needs.{needs}
 use Rattle.printing.proofs.values.put_op.Statement.{statement}
 use Rattle.printing.proofs.values.put_op.Tie as tie

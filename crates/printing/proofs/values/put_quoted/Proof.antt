@@ -1,3 +1,4 @@
+-- `values::put_quoted` meets its contract.
 use borrow.Author.Needs.{needs}
 use Rattle.printing.proofs.values.put_quoted.Statement.{statement}
 use Rattle.printing.proofs.values.put_quoted.Tie as tie

@@ -1,3 +1,4 @@
+-- `values::put_sequence` meets its contract.
 use borrow.Author.Needs.{needs}
 use Rattle.printing.proofs.values.put_sequence.Statement.{statement}
 use Rattle.printing.proofs.values.put_sequence.Tie as tie

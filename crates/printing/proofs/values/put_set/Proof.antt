@@ -1,3 +1,4 @@
+-- `values::put_set` meets its contract.
 use borrow.Author.Needs.{needs}
 use Rattle.printing.proofs.values.put_set.Statement.{statement}
 use Rattle.printing.proofs.values.put_set.Tie as tie

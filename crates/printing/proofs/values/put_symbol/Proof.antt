@@ -1,3 +1,4 @@
+-- `values::put_symbol` meets its contract.
 use borrow.Author.Needs.{needs}
 use Rattle.printing.proofs.values.put_symbol.Statement.{statement}
 use Rattle.printing.proofs.values.put_symbol.Tie as tie

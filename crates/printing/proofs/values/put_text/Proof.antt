@@ -1,3 +1,4 @@
+-- `values::put_text` meets its contract.
 use borrow.Author.Needs.{needs}
 use Rattle.printing.proofs.values.put_text.Statement.{statement}
 use Rattle.printing.proofs.values.put_text.Tie as tie

@@ -1,3 +1,4 @@
+-- `values::put_unit` meets its contract.
 use borrow.Author.Needs.{needs}
 use Rattle.printing.proofs.values.put_unit.Statement.{statement}
 use Rattle.printing.proofs.values.put_unit.Tie as tie

@@ -1,3 +1,4 @@
+-- `values::put_when` meets its contract.
 use borrow.Author.Needs.{needs}
 use Rattle.printing.proofs.values.put_when.Statement.{statement}
 use Rattle.printing.proofs.values.put_when.Tie as tie

@@ -1,3 +1,4 @@
+-- `numbers::put_eight` meets its contract.
 use Rattle.rows.proofs.Writing.{onward, in-eight}
 use borrow.Author.Needs.{needs}
 use Rattle.rows.proofs.numbers.put_eight.Statement.{statement}

@@ -1,3 +1,4 @@
+-- `numbers::put_four` meets its contract.
 use Rattle.rows.proofs.Writing.{onward, in-four}
 use borrow.Author.Needs.{needs}
 use Rattle.rows.proofs.numbers.put_four.Statement.{statement}

@@ -1,3 +1,4 @@
+-- `numbers::twos8` meets its contract.
 use native.Mathlib.Omega.{arith}
 use Rattle.rows.proofs.Writing.{byte-minus, byte}
 use borrow.Author.Needs.{needs}

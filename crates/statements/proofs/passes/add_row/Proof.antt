@@ -1,3 +1,4 @@
+-- `passes::add_row` meets its contract.
 use mathlib.Core.Path.{refl}
 use native.Mathlib.Omega.{arith}
 use Rattle.statements.proofs.Rooms.{added, not-added, short-row}

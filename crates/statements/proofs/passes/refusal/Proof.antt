@@ -1,3 +1,4 @@
+-- `passes::refusal` meets its contract.
 use Rattle.statements.proofs.Codes.{refusals}
 use Rattle.statements.proofs.passes.refusal.Statement.{statement}
 use Rattle.statements.proofs.passes.refusal.Tie as tie

@@ -1,3 +1,4 @@
+-- `stack::seen` meets its contract.
 use Rattle.statements.proofs.Opened.{stack}
 use borrow.Author.Needs.{needs}
 use Rattle.statements.proofs.stack.seen.Statement.{statement}

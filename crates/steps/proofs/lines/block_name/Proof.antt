@@ -1,3 +1,4 @@
+-- `lines::block_name` meets its contract.
 use Rattle.steps.proofs.Ways.{ways}
 use borrow.Author.Needs.{needs}
 use Rattle.steps.proofs.lines.block_name.Statement.{statement}

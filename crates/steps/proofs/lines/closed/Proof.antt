@@ -1,3 +1,4 @@
+-- `closed`: the sign between a closing word and its name.
 use Rattle.steps.proofs.Ways.{ways}
 use borrow.Author.Needs.{needs}
 use Rattle.steps.proofs.lines.closed.Statement.{statement}
@@ -7,8 +8,5 @@ pub closed-spec : {M : Type 1} → statement M
 closed-spec =
     tie.close
     (tie.spec
-    (λ c κs. search needs)
-    (λ c κs. search needs)
-    (λ c. search ways)
     (λ c κs. search needs)
     (λ c. search ways))

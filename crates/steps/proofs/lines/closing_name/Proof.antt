@@ -1,3 +1,4 @@
+-- `lines::closing_name` meets its contract.
 use Rattle.steps.proofs.Closings.{closings}
 use borrow.Author.Needs.{needs}
 use Rattle.steps.proofs.lines.closing_name.Statement.{statement}

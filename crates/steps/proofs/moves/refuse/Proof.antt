@@ -1,3 +1,4 @@
+-- `moves::refuse` meets its contract.
 use borrow.Author.Needs.{needs}
 use Rattle.steps.proofs.moves.refuse.Statement.{statement}
 use Rattle.steps.proofs.moves.refuse.Tie as tie

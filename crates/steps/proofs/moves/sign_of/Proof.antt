@@ -1,3 +1,4 @@
+-- `moves::sign_of` meets its contract.
 use mathlib.Core.Path.{sym, _∙_}
 use Rattle.steps.proofs.Offers.{signed, no-sign}
 use borrow.Author.Needs.{needs}

@@ -1,3 +1,4 @@
+-- `moves::start_of` meets its contract.
 use mathlib.Core.Path.{ap, sym, _∙_}
 use Rattle.elements.specs.Next.{placeOf}
 use borrow.Author.Needs.{needs}

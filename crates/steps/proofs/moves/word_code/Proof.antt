@@ -1,3 +1,4 @@
+-- `moves::word_code` meets its contract.
 use mathlib.Core.Path.{ap, sym}
 use Rattle.steps.specs.Signs.{wordCode}
 use borrow.Author.Needs.{needs}

@@ -1,3 +1,4 @@
+-- `names::part` meets its contract.
 use Rattle.steps.proofs.Closings.{parts}
 use borrow.Author.Needs.{needs}
 use Rattle.steps.proofs.names.part.Statement.{statement}

@@ -1,3 +1,4 @@
+-- `names::same_name` meets its contract.
 use Prim.Native.Nat.{_-_}
 use lib.ListN.{length}
 use Rattle.steps.proofs.Closings.{Matching, matching, match-turn}

@@ -1,3 +1,4 @@
+-- `units::after_exponent` meets its contract.
 use Rattle.steps.proofs.Ways.{ways}
 use borrow.Author.Needs.{needs}
 use Rattle.steps.proofs.units.after_exponent.Statement.{statement}

@@ -1,3 +1,4 @@
+-- `units::after_unit` meets its contract.
 use Rattle.steps.proofs.Ways.{ways}
 use borrow.Author.Needs.{needs}
 use Rattle.steps.proofs.units.after_unit.Statement.{statement}

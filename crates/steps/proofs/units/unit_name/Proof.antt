@@ -1,3 +1,4 @@
+-- `units::unit_name` meets its contract.
 use Rattle.steps.proofs.Ways.{ways}
 use borrow.Author.Needs.{needs}
 use Rattle.steps.proofs.units.unit_name.Statement.{statement}

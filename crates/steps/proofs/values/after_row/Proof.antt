@@ -1,3 +1,4 @@
+-- `values::after_row` meets its contract.
 use Rattle.steps.proofs.Ways.{ways}
 use borrow.Author.Needs.{needs}
 use Rattle.steps.proofs.values.after_row.Statement.{statement}

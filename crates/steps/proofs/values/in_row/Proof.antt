@@ -1,3 +1,4 @@
+-- `values::in_row` meets its contract.
 use Rattle.steps.proofs.Ways.{ways}
 use borrow.Author.Needs.{needs}
 use Rattle.steps.proofs.values.in_row.Statement.{statement}

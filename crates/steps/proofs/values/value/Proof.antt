@@ -1,3 +1,4 @@
+-- `values::value` meets its contract.
 use Rattle.steps.proofs.Ways.{ways}
 use borrow.Author.Needs.{needs}
 use Rattle.steps.proofs.values.value.Statement.{statement}

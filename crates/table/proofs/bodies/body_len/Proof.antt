@@ -1,3 +1,4 @@
+-- `bodies::body_len` meets its contract.
 use Rattle.table.proofs.RowsRead.{lengths}
 use Rattle.table.proofs.bodies.body_len.Statement.{statement}
 use Rattle.table.proofs.bodies.body_len.Tie as tie

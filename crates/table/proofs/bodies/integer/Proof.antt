@@ -1,3 +1,4 @@
+-- `bodies::integer` meets its contract.
 use Rattle.table.proofs.RowsRead.{bodies}
 use Rattle.table.proofs.bodies.integer.Statement.{statement}
 use Rattle.table.proofs.bodies.integer.Tie as tie

@@ -1,3 +1,4 @@
+-- `bodies::row_of` meets its contract.
 use Rattle.table.proofs.RowsRead.{bodies}
 use Rattle.table.proofs.bodies.row_of.Statement.{statement}
 use Rattle.table.proofs.bodies.row_of.Tie as tie

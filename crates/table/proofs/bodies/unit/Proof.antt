@@ -1,3 +1,4 @@
+-- `bodies::unit` meets its contract.
 use Rattle.table.proofs.RowsRead.{bodies}
 use Rattle.table.proofs.bodies.unit.Statement.{statement}
 use Rattle.table.proofs.bodies.unit.Tie as tie

@@ -1,3 +1,4 @@
+-- `bodies::unit_of` meets its contract.
 use Rattle.table.proofs.RowsRead.{bodies}
 use Rattle.table.proofs.bodies.unit_of.Statement.{statement}
 use Rattle.table.proofs.bodies.unit_of.Tie as tie

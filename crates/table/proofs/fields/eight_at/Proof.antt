@@ -1,3 +1,4 @@
+-- `fields::eight_at` meets its contract.
 use Rattle.table.proofs.Octets.{numbers}
 use borrow.Author.Needs.{needs}
 use Rattle.table.proofs.fields.eight_at.Statement.{statement}

@@ -1,3 +1,4 @@
+-- `fields::octet` meets its contract.
 use Rattle.table.proofs.Octets.{numbers}
 use Rattle.table.proofs.fields.octet.Statement.{statement}
 use Rattle.table.proofs.fields.octet.Tie as tie

@@ -1,3 +1,4 @@
+-- `fields::one_at` meets its contract.
 use Rattle.table.proofs.Octets.{numbers}
 use Rattle.table.proofs.fields.one_at.Statement.{statement}
 use Rattle.table.proofs.fields.one_at.Tie as tie

@@ -1,3 +1,4 @@
+-- `fields::size_of` meets its contract.
 use Rattle.table.proofs.Octets.{numbers}
 use borrow.Author.Needs.{needs}
 use Rattle.table.proofs.fields.size_of.Statement.{statement}

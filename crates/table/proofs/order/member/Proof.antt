@@ -1,3 +1,4 @@
+-- `order::member` meets its contract.
 use Rattle.table.proofs.Awaited.{order}
 use Rattle.table.proofs.order.member.Statement.{statement}
 use Rattle.table.proofs.order.member.Tie as tie

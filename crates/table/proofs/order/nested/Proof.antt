@@ -1,3 +1,4 @@
+-- `order::nested` meets its contract.
 use Rattle.table.proofs.Awaited.{order}
 use Rattle.table.proofs.order.nested.Statement.{statement}
 use Rattle.table.proofs.order.nested.Tie as tie

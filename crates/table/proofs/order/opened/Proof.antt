@@ -1,3 +1,4 @@
+-- `order::opened` meets its contract.
 use Rattle.table.proofs.Awaited.{order}
 use Rattle.table.proofs.order.opened.Statement.{statement}
 use Rattle.table.proofs.order.opened.Tie as tie

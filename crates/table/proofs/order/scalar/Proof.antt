@@ -1,3 +1,4 @@
+-- `order::scalar` meets its contract.
 use Rattle.table.proofs.Awaited.{order}
 use Rattle.table.proofs.order.scalar.Statement.{statement}
 use Rattle.table.proofs.order.scalar.Tie as tie

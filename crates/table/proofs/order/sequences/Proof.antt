@@ -1,3 +1,4 @@
+-- `order::sequences` meets its contract.
 use Rattle.table.proofs.Awaited.{order}
 use Rattle.table.proofs.order.sequences.Statement.{statement}
 use Rattle.table.proofs.order.sequences.Tie as tie

@@ -1,3 +1,4 @@
+-- `order::statement` meets its contract.
 use Rattle.table.proofs.Awaited.{order}
 use Rattle.table.proofs.order.statement.Statement.{statement}
 use Rattle.table.proofs.order.statement.Tie as tie

@@ -1,3 +1,4 @@
+-- `order::value` meets its contract.
 use Rattle.table.proofs.Awaited.{order}
 use Rattle.table.proofs.order.value.Statement.{statement}
 use Rattle.table.proofs.order.value.Tie as tie

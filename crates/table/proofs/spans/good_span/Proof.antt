@@ -1,3 +1,4 @@
+-- `spans::good_span` meets its contract.
 use Rattle.table.proofs.Held.{spans}
 use borrow.Author.Needs.{needs}
 use Rattle.table.proofs.spans.good_span.Statement.{statement}

@@ -1,3 +1,4 @@
+-- `spans::symbol_body` meets its contract.
 use Rattle.table.proofs.Held.{spans}
 use Rattle.table.proofs.spans.symbol_body.Statement.{statement}
 use Rattle.table.proofs.spans.symbol_body.Tie as tie

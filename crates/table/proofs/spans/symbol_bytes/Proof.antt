@@ -1,3 +1,4 @@
+-- `spans::symbol_bytes` meets its contract.
 use Rattle.table.proofs.Held.{Symbols, spans}
 use Prim.Native.Nat.{_-_}
 use lib.ListN.{length}

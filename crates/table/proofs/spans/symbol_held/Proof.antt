@@ -1,3 +1,4 @@
+-- `spans::symbol_held` meets its contract.
 use Rattle.table.proofs.Held.{spans}
 use borrow.Author.Needs.{needs}
 use Rattle.table.proofs.spans.symbol_held.Statement.{statement}

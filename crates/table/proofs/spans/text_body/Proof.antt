@@ -1,3 +1,4 @@
+-- `spans::text_body` meets its contract.
 use Rattle.table.proofs.Held.{Texts, spans}
 use Prim.Native.Nat.{_-_}
 use lib.ListN.{length}

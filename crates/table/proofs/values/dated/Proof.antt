@@ -1,3 +1,4 @@
+-- `values::dated` meets its contract.
 use Rattle.table.proofs.Worths.{values}
 use Rattle.table.proofs.values.dated.Statement.{statement}
 use Rattle.table.proofs.values.dated.Tie as tie

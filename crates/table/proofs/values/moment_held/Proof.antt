@@ -1,3 +1,4 @@
+-- `values::moment_held` meets its contract.
 use Rattle.table.proofs.Worths.{values}
 use Rattle.table.proofs.values.moment_held.Statement.{statement}
 use Rattle.table.proofs.values.moment_held.Tie as tie

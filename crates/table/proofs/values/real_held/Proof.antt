@@ -1,3 +1,4 @@
+-- `values::real_held` meets its contract.
 use Rattle.table.proofs.Worths.{values}
 use borrow.Author.Needs.{needs}
 use Rattle.table.proofs.values.real_held.Statement.{statement}

@@ -1,3 +1,4 @@
+-- `days::day_in_month` meets its contract.
 use borrow.Author.Needs.{needs}
 use Rattle.words.proofs.days.day_in_month.Statement.{statement}
 use Rattle.words.proofs.days.day_in_month.Tie as tie

@@ -1,3 +1,4 @@
+-- `days::day_in_year` meets its contract.
 use borrow.Author.Needs.{needs}
 use Rattle.words.proofs.days.day_in_year.Statement.{statement}
 use Rattle.words.proofs.days.day_in_year.Tie as tie

@@ -1,3 +1,4 @@
+-- `days::day_of` meets its contract.
 use borrow.Author.Needs.{needs}
 use Rattle.words.proofs.days.day_of.Statement.{statement}
 use Rattle.words.proofs.days.day_of.Tie as tie

@@ -1,3 +1,4 @@
+-- `days::days_before` meets its contract.
 use borrow.Author.Needs.{needs}
 use Rattle.words.proofs.days.days_before.Statement.{statement}
 use Rattle.words.proofs.days.days_before.Tie as tie

@@ -1,3 +1,4 @@
+-- `days::month_length` meets its contract.
 use borrow.Author.Needs.{needs}
 use Rattle.words.proofs.days.month_length.Statement.{statement}
 use Rattle.words.proofs.days.month_length.Tie as tie

@@ -1,3 +1,4 @@
+-- `names::name` meets its contract.
 use borrow.Author.Needs.{needs}
 use Rattle.words.proofs.names.name.Statement.{statement}
 use Rattle.words.proofs.names.name.Tie as tie

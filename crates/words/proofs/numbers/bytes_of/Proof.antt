@@ -1,3 +1,4 @@
+-- `numbers::bytes_of` meets its contract.
 use borrow.Author.Needs.{needs}
 use Rattle.words.proofs.numbers.bytes_of.Statement.{statement}
 use Rattle.words.proofs.numbers.bytes_of.Tie as tie

@@ -1,3 +1,4 @@
+-- `numbers::in_base` meets its contract.
 use borrow.Author.Needs.{needs}
 use Rattle.words.proofs.numbers.in_base.Statement.{statement}
 use Rattle.words.proofs.numbers.in_base.Tie as tie

@@ -1,3 +1,4 @@
+-- `numbers::in_radix` meets its contract.
 use borrow.Author.Needs.{needs}
 use Rattle.words.proofs.numbers.in_radix.Statement.{statement}
 use Rattle.words.proofs.numbers.in_radix.Tie as tie

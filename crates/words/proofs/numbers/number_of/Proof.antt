@@ -1,3 +1,4 @@
+-- `numbers::number_of` meets its contract.
 use borrow.Author.Needs.{needs}
 use Rattle.words.proofs.numbers.number_of.Statement.{statement}
 use Rattle.words.proofs.numbers.number_of.Tie as tie

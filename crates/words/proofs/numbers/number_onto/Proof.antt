@@ -1,3 +1,4 @@
+-- `numbers::number_onto` meets its contract.
 use borrow.Author.Needs.{needs}
 use Prim.Native.Nat.{_-_}
 use lib.ListN.{length}

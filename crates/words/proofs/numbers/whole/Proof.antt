@@ -1,3 +1,4 @@
+-- `numbers::whole` meets its contract.
 use borrow.Author.Needs.{needs}
 use Rattle.words.proofs.numbers.whole.Statement.{statement}
 use Rattle.words.proofs.numbers.whole.Tie as tie

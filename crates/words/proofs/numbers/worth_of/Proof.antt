@@ -1,3 +1,4 @@
+-- `numbers::worth_of` meets its contract.
 use borrow.Author.Needs.{needs}
 use Rattle.words.proofs.numbers.worth_of.Statement.{statement}
 use Rattle.words.proofs.numbers.worth_of.Tie as tie

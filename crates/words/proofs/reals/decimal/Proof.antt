@@ -1,3 +1,4 @@
+-- `reals::decimal` meets its contract.
 use borrow.Author.Needs.{needs}
 use Rattle.words.proofs.reals.decimal.Statement.{statement}
 use Rattle.words.proofs.reals.decimal.Tie as tie

@@ -1,3 +1,4 @@
+-- `reals::finish` meets its contract.
 use borrow.Author.Needs.{needs}
 use Rattle.words.proofs.reals.finish.Statement.{statement}
 use Rattle.words.proofs.reals.finish.Tie as tie

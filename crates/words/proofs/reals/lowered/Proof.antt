@@ -1,3 +1,4 @@
+-- `reals::lowered` meets its contract.
 use borrow.Author.Needs.{needs}
 use Rattle.words.proofs.reals.lowered.Statement.{statement}
 use Rattle.words.proofs.reals.lowered.Tie as tie

@@ -1,3 +1,4 @@
+-- `reals::raised` meets its contract.
 use borrow.Author.Needs.{needs}
 use Rattle.words.proofs.reals.raised.Statement.{statement}
 use Rattle.words.proofs.reals.raised.Tie as tie

@@ -1,3 +1,4 @@
+-- `reals::scaled` meets its contract.
 use borrow.Author.Needs.{needs}
 use Rattle.words.proofs.reals.scaled.Statement.{statement}
 use Rattle.words.proofs.reals.scaled.Tie as tie

@@ -1,3 +1,4 @@
+-- `reals::without_zeros` meets its contract.
 use borrow.Author.Needs.{needs}
 use Rattle.words.proofs.reals.without_zeros.Statement.{statement}
 use Rattle.words.proofs.reals.without_zeros.Tie as tie

@@ -1,3 +1,4 @@
+-- `times::dated` meets its contract.
 use borrow.Author.Needs.{needs}
 use Rattle.words.proofs.times.dated.Statement.{statement}
 use Rattle.words.proofs.times.dated.Tie as tie

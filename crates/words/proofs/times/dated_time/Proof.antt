@@ -1,3 +1,4 @@
+-- `times::dated_time` meets its contract.
 use borrow.Author.Needs.{needs}
 use Rattle.words.proofs.times.dated_time.Statement.{statement}
 use Rattle.words.proofs.times.dated_time.Tie as tie

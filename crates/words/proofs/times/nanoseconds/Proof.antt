@@ -1,3 +1,4 @@
+-- `times::nanoseconds` meets its contract.
 use borrow.Author.Needs.{needs}
 use Rattle.words.proofs.times.nanoseconds.Statement.{statement}
 use Rattle.words.proofs.times.nanoseconds.Tie as tie

@@ -1,3 +1,4 @@
+-- `times::stamped` meets its contract.
 use borrow.Author.Needs.{needs}
 use Rattle.words.proofs.times.stamped.Statement.{statement}
 use Rattle.words.proofs.times.stamped.Tie as tie

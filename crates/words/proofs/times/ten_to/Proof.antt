@@ -1,3 +1,4 @@
+-- `times::ten_to` meets its contract.
 use borrow.Author.Needs.{needs}
 use Rattle.words.proofs.times.ten_to.Statement.{statement}
 use Rattle.words.proofs.times.ten_to.Tie as tie

@@ -1,3 +1,4 @@
+-- `times::timed` meets its contract.
 use borrow.Author.Needs.{needs}
 use Rattle.words.proofs.times.timed.Statement.{statement}
 use Rattle.words.proofs.times.timed.Tie as tie

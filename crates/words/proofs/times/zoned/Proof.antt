@@ -1,3 +1,4 @@
+-- `times::zoned` meets its contract.
 use borrow.Author.Needs.{needs}
 use Rattle.words.proofs.times.zoned.Statement.{statement}
 use Rattle.words.proofs.times.zoned.Tie as tie

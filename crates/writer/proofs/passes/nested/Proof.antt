@@ -1,3 +1,4 @@
+-- `passes::nested` meets its contract.
 use native.Mathlib.Omega.{arith}
 use borrow.Author.Needs.{needs}
 use Rattle.writer.proofs.Nesting.{full, far-start, far-end, pushes, pops, others}
