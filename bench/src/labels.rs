@@ -2,7 +2,12 @@
 
 type Label = fn(usize) -> Vec<u8>;
 
-pub const KINDS: [(&str, Label); 3] = [("dense", dense), ("padded", padded), ("sample", sample)];
+pub const KINDS: [(&str, Label); 4] = [
+    ("dense", dense),
+    ("padded", padded),
+    ("sample", sample),
+    ("digits", digits),
+];
 
 /// Names and values of every sort.
 const STATEMENTS: [(&str, &str); 14] = [
@@ -77,4 +82,11 @@ fn sample(size: usize) -> Vec<u8> {
         .expect("the label ends with END");
     // The smallest size is just short of the sample's own.
     filled(size.max(body.len() + 5), |_| body.to_string())
+}
+
+/// Sequences of one-digit numbers: close to the longest table for its bytes.
+fn digits(size: usize) -> Vec<u8> {
+    filled(size, |number| {
+        format!("A=({}{})\n", "1,".repeat(30), number % 10)
+    })
 }

@@ -1,17 +1,19 @@
 -- What a word is by its first byte.
 use Prim.Native.Nat.{ℕ, _≤_}
-use mathlib.Core.Bool.{Bool, true, false, _&&_, false≢true}
-use mathlib.Core.Path.{_≡_, refl, sym, ap, _∙_}
+use mathlib.Core.Bool.{Bool, true, false, not, _&&_, false≢true}
+use mathlib.Core.Path.{_≡_, refl, sym, ap, subst, _∙_}
 use mathlib.Core.List.{List, [], _∷_}
 use native.Mathlib.Omega.{arith}
+use borrow.Author.Tests.{eq-eqb, ne-eqb}
+use lib.Dec.{eqb}
 use lib.ListN.{length, getD, drop}
 use Rattle.rules.specs.Bytes.{digit, front, letter}
-use Rattle.rules.proofs.Words.Patterns.{run}
-use Rattle.rules.proofs.Words.Shapes.{any, g-after, g-word}
+use Rattle.rules.proofs.Words.Patterns.{G, run}
+use Rattle.rules.proofs.Words.Shapes.{any, g-after, g-signs, g-word}
 use Rattle.classes.specs.Places.{ByteAt}
 use Rattle.forms.specs.declared.Form.{Form}
 use Rattle.forms.specs.declared.Form.the-variants.{NoForm, Name}
-use Rattle.forms.specs.Forms.{Reads}
+use Rattle.forms.specs.Forms.{Reads, Signed, minus, plus, unsigned}
 use Rattle.rules.specs.Modes.{base}
 use Rattle.rules.proofs.Words.Identifiers.{more, isIdentifier}
 use Rattle.forms.proofs.Reading.{r-yes, r-no, r-minus, r-plus, r-unsigned}
@@ -41,11 +43,21 @@ module _ (w : List ℕ) (x : ℕ) (y : ByteAt w 0 x) (t : Bool) (k : t ≡ lette
   pub shape-unnamed : (u : Bool) → t ≡ true → u ≡ more false (drop 1 w) → u ≡ false → Reads (g-word base) w 0 NoForm
   shape-unnamed u h e f = r-yes w 0 NoForm (lettered true h) (record { reads = rw (named w, lettered true h, sym e ∙ f) })
 
-  pub shape-minus : (r : Form) → t ≡ false → x ≡ 45 → Reads (run digit any (g-after base true true)) w 1 r → Reads (g-word base) w 0 r
-  shape-minus r h q g = r-no w 0 r (lettered false h) (r-minus (λ s neg. run digit any (g-after base s neg)) w 0 x r y q g)
+  pub sign-there : {n : ℕ} → Signed x n → n ≤ length w
+  sign-there (minus q) = omega (arith, y .inside)
+  sign-there (plus n q) = omega (arith, y .inside)
+  sign-there (unsigned n n₂) = omega arith
 
-  pub shape-plus : (r : Form) → t ≡ false → (x ≡ 45 → ⊥) → x ≡ 43 → Reads (run digit any (g-after base true false)) w 1 r → Reads (g-word base) w 0 r
-  shape-plus r h n q g = r-no w 0 r (lettered false h) (r-plus (λ s neg. run digit any (g-after base s neg)) w 0 x r y n q g)
+  abbrev Numbered : ℕ → Bool → Form → Type 0
+  Numbered n neg r = Reads (run digit any (g-after base (not (eqb n 0)) neg)) w n r
 
-  pub shape-plain : (r : Form) → t ≡ false → (x ≡ 45 → ⊥) → (x ≡ 43 → ⊥) → Reads (run digit any (g-after base false false)) w 0 r → Reads (g-word base) w 0 r
-  shape-plain r h n n₂ g = r-no w 0 r (lettered false h) (r-unsigned (λ s neg. run digit any (g-after base s neg)) w 0 x r y n n₂ g)
+  abbrev digits : Bool → Bool → G
+  digits s neg = run digit any (g-after base s neg)
+
+  pub shape-number : (r : Form) {n : ℕ} → t ≡ false → Signed x n → Numbered n (eqb x 45) r → Reads (g-word base) w 0 r
+  shape-number r h s g = r-no w 0 r (lettered false h) (go s g)
+    where
+      go : {n : ℕ} → Signed x n → Numbered n (eqb x 45) r → Reads (g-signs digits) w 0 r
+      go (minus q) g = r-minus digits w 0 x r y q (subst (λ (neg : Bool). Numbered 1 neg r) (eq-eqb x 45 q) g)
+      go (plus n q) g = r-plus digits w 0 x r y n q (subst (λ (neg : Bool). Numbered 1 neg r) (ne-eqb x 45 n) g)
+      go (unsigned n n₂) g = r-unsigned digits w 0 x r y n n₂ (subst (λ (neg : Bool). Numbered 0 neg r) (ne-eqb x 45 n) g)

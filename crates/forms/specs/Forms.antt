@@ -55,6 +55,12 @@ written w (Moment s c z) = some (timeOf w s c (zoneOf w z))
 pub record Reads (g : G) (w : List ℕ) (at : ℕ) (r : Form) : Type 0 where
   pub reads : matches g (drop at w) ≡ written w r
 
+-- how many bytes the sign is that a byte may be, at the front of a number
+pub data Signed : ℕ → ℕ → Type 0 where
+  minus : {b : ℕ} → b ≡ 45 → Signed b 1
+  plus : {b : ℕ} → (b ≡ 45 → ⊥) → b ≡ 43 → Signed b 1
+  unsigned : {b : ℕ} → (b ≡ 45 → ⊥) → (b ≡ 43 → ⊥) → Signed b 0
+
 -- after the seconds of a time
 abbrev pub atSecond : List ℕ → Stamp → Span → Span → Second → G
 atSecond w s h m x = g-zone (λ z. stamped w s (record { hour = number (on w h); minute = number (on w m); second = x; zone = z }))

@@ -14,7 +14,7 @@ ghost use lib.ListN.{length, drop};
 ghost use Rattle.rules.specs.Modes.{base};
 ghost use Rattle.rules.proofs.Words.Identifiers.{more};
 ghost use Rattle.rules.proofs.Words.Shapes.{g-word};
-ghost use Rattle.forms.specs.Forms.{Reads};
+ghost use Rattle.forms.specs.Forms.{Reads, Signed};
 
 // The bytes of the word from a place up to another; 0 up to 0 for what is not written.
 pub struct Span {
@@ -87,7 +87,20 @@ fn is_more(w: &[u8], from: usize) -> bool
     !under
 }
 
-// The form of any bytes as a word, in one pass over them.
+// How many bytes the sign is that this first byte may be.
+fn sign_length(b: u8) -> usize
+    ensures { λ r. ⌜ Signed b r ⌝ }
+{
+    if b == 45 {
+        return 1;
+    }
+    if b == 43 {
+        return 1;
+    }
+    0
+}
+
+// The form of any bytes as a word, in one pass over them. One call of `number_at`: the compiler then keeps the form in registers.
 pub fn shape(w: &[u8]) -> Form
     ensures { λ r. ⌜ Reads (g-word base) (now (w .entry)) 0 r ⌝ }
 {
@@ -98,11 +111,5 @@ pub fn shape(w: &[u8]) -> Form
         }
         return Form::NoForm;
     }
-    if b == 45 {
-        return number_at(w, true, 1);
-    }
-    if b == 43 {
-        return number_at(w, false, 1);
-    }
-    number_at(w, false, 0)
+    number_at(w, b == 45, sign_length(b))
 }

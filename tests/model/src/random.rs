@@ -65,6 +65,12 @@ pub fn good_label(random: &mut Random) -> Vec<u8> {
     Maker::new(random).label(size)
 }
 
+/// A good label of 20,000 to nearly 65,535 bytes.
+pub fn long_label(random: &mut Random) -> Vec<u8> {
+    let size = 20_000 + random.below(LONGEST_LABEL - 28_000);
+    Maker::new(random).label(size)
+}
+
 /// A good label filled up with spaces to nearly, exactly or just over the
 /// longest length allowed.
 pub fn filled_label(random: &mut Random) -> Vec<u8> {
@@ -88,7 +94,8 @@ pub fn damaged_label(random: &mut Random) -> Vec<u8> {
     label
 }
 
-fn damage(random: &mut Random, label: &mut Vec<u8>) {
+/// One change, at any place, that may or may not break the label.
+pub fn damage(random: &mut Random, label: &mut Vec<u8>) {
     const TELLING: &[u8] = b"=,*/^<>(){}\"'_+-.:#&;\\ \t\r\n\x0b\x0c\0\x1f\x7f\x80\xff09azAZTEe";
     let at = random.below(label.len());
     let other = random.below(label.len());

@@ -1,23 +1,20 @@
 -- The form of a word, by its first byte.
 use borrow.Author.Needs.{needs}
+use Rattle.forms.proofs.First.{letter-there, shape-name, shape-unnamed, sign-there, shape-number}
 use Rattle.forms.proofs.shape.Statement.{statement}
 use Rattle.forms.proofs.shape.Tie as tie
-use Rattle.forms.proofs.First.{letter-there, shape-name, shape-unnamed, shape-minus, shape-plus, shape-plain}
 
-ruleset ways = (letter-there, shape-name, shape-unnamed, shape-minus, shape-plus, shape-plain, needs)
+ruleset ways = (letter-there, shape-name, shape-unnamed, sign-there, shape-number, needs)
 
 pub shape-spec : {M : Type 1} → statement M
 shape-spec =
     tie.close
     (tie.spec
-    (λ c κs. search needs)
-    (λ c κs. search needs)
+    (λ c κs. search ways)
+    (λ c κs. search ways)
     (λ c κs. search ways)
     (λ c. search ways)
     (λ c. search ways)
-    (λ c κs. search needs)
-    (λ c. search ways)
-    (λ c κs. search needs)
-    (λ c. search ways)
-    (λ c κs. search needs)
+    (λ c κs. search ways)
+    (λ c κs. search ways)
     (λ c. search ways))

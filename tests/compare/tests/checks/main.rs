@@ -1,5 +1,6 @@
 //! The library against the model and the documents' examples.
 
+mod array;
 mod documents;
 mod listed;
 mod odd;

@@ -1,0 +1,83 @@
+//! Tables and written labels about as long as the array of 16,384 bytes that
+//! the library fills before it touches the room, and much longer ones: the
+//! place where the array is full may fall anywhere in a row.
+
+use compare::{Call, Case};
+use odl_model::random::{self, Random};
+
+const ARRAY: usize = 16_384;
+
+/// Statements, each with the length of its rows.
+const STATEMENTS: [(&str, usize); 4] = [
+    ("A=12\n", 5 + 9),
+    ("A=B\n", 5 + 5),
+    ("A={}\n", 5 + 2),
+    ("A=2026-11-15T08:00+01:00\n", 5 + 15),
+];
+
+/// The row of END.
+const LAST: usize = 3;
+
+/// A label whose table has this length. Its statements come in the order that
+/// the number gives, so that the last rows before a place differ.
+fn label_for(table: usize, number: usize) -> Vec<u8> {
+    let mut label = Vec::new();
+    let mut left = table - LAST;
+    for at in number.. {
+        let (statement, rows) = STATEMENTS[(at * at + at / 3) % STATEMENTS.len()];
+        if left < 200 {
+            break;
+        }
+        label.extend_from_slice(statement.as_bytes());
+        left -= rows;
+    }
+    // What is left is at least 180, and any such number is sevens and tens.
+    let tens = (0..7).find(|tens| (left - 10 * tens) % 7 == 0).unwrap();
+    label.extend("A=B\n".repeat(tens).bytes());
+    label.extend("A={}\n".repeat((left - 10 * tens) / 7).bytes());
+    label.extend(b"END\n");
+    label
+}
+
+#[test]
+fn tables_about_as_long_as_the_array_agree() {
+    for table in ARRAY - 20..=ARRAY + 20 {
+        for number in 0..12 {
+            let case = Case::read(&label_for(table, number), 0);
+            assert_eq!(case.room_needed(), table);
+            case.check_rooms().unwrap_or_else(|text| panic!("{text}"));
+        }
+    }
+}
+
+#[test]
+fn labels_written_about_as_long_as_the_array_agree() {
+    let mut lengths = std::collections::BTreeSet::new();
+    for table in (ARRAY..ARRAY + 4_000).step_by(13) {
+        let label = label_for(table, table);
+        let table = random::table_of(&label);
+        let case = Case::over(Call::Write, &label, &table);
+        lengths.insert(case.room_needed().abs_diff(ARRAY) / 100);
+        case.check_rooms().unwrap_or_else(|text| panic!("{text}"));
+    }
+    assert!(
+        lengths.contains(&0),
+        "no label was about as long: {lengths:?}"
+    );
+}
+
+#[test]
+fn long_labels_good_and_damaged_agree() {
+    let mut random = Random::new(5);
+    let mut longer = 0;
+    for _ in 0..400 {
+        let mut label = random::long_label(&mut random);
+        let case = Case::read(&label, 0);
+        longer += usize::from(case.room_needed() > ARRAY);
+        case.check_rooms().unwrap_or_else(|text| panic!("{text}"));
+        random::damage(&mut random, &mut label);
+        let case = Case::read(&label, 0);
+        case.check_rooms().unwrap_or_else(|text| panic!("{text}"));
+    }
+    assert!(longer > 200, "{longer} tables longer than the array");
+}
