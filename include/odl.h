@@ -15,6 +15,11 @@
  *
  * Calls share no state and may run at the same time in many threads, each
  * with its own room. A call needs no more than 64 KiB of stack.
+ *
+ * Time. odl_read takes time in proportion to the label. The other calls judge
+ * the whole table first, each time anew, so each takes time in proportion to
+ * it. To walk all rows of a table that odl_read has just made, step from row to
+ * row as the kinds say: the spans of names stand in the rows.
  */
 #ifndef ODL_H
 #define ODL_H

@@ -1,5 +1,5 @@
 -- Tables: a machine over rows that accepts exactly the rows of labels; rows out of bytes, in one way only; every table is proper or improper, at one place;
--- the table that a reading gives is proper over what was read.
+-- the table that a reading gives is proper over what was read, and at most five times as long.
 pub mod Tests
 pub mod Numbers
 pub mod Contents
@@ -17,5 +17,7 @@ pub mod Walk
 pub mod Checks
 pub mod Judge
 pub mod OwnTable
+pub mod Widths
+pub mod Bound
 pub mod Seeking
 pub mod Asked

@@ -1,0 +1,101 @@
+-- A reading and a writing, one after the other.
+use Prim.Native.Nat.{ℕ, _-_, _≤_, _<_}
+use native.Mathlib.Omega.{arith}
+use mathlib.Core.Path.{_≡_, refl, sym, ap, subst, _∙_}
+use mathlib.Core.List.{List, _++_}
+use lib.ListN.{length, take, drop}
+use lib.Seq.{take-all, take-at}
+use Rattle.rules.specs.Data.{Row}
+use Rattle.rules.specs.Modes.{base}
+use Rattle.rules.specs.Table.{table}
+use Rattle.rules.specs.Meaning.{meaning}
+use Rattle.rules.specs.Written.{canonical}
+use Rattle.rules.specs.Proper.{proper-rows, improper-at, Ruled}
+use Rattle.rules.specs.Reading.{Said, Outcome, accepted, refused, Judged, misspelled, misplaced, ends-early, Reads, too-long, read, Answered, stored, no-room, not-read}
+use Rattle.rules.specs.Writing.{Writes, long-label, no-table, long-written, short-room, stored as put}
+use Rattle.rules.specs.Asked.{says}
+use Rattle.rules.proofs.Tables.Judge.{verdict-once}
+use Rattle.rules.proofs.Tables.OwnTable.{read-ruled}
+use Rattle.statements.proofs.Codes.{judged-code}
+use Rattle.relabel.specs.Relabels.{Relabels}
+use Rattle.relabel.specs.Relabels as relabel
+
+-- ---- the reading
+
+-- no refusal has the code 0
+refusal-code : {label : List ℕ} {c i : ℕ} → Reads base label (refused c i) → c ≡ 0 → ⊥
+refusal-code (too-long h) e = omega arith
+refusal-code (read h j) e = omega (arith, judged-code j .0)
+
+-- the table that was read, where the code is 0
+pub record Got (label lent : List ℕ) : Type 0 where
+  pub rows : List Row
+  pub past : ℕ
+  pub reads : Reads base label (accepted rows past)
+  pub fits : length (table rows) ≤ 65535
+  pub is : lent ≡ table rows
+
+pub got : {label room last lent : List ℕ} {s : Said} → length room ≡ 65535 → Answered base label room s last → s .code ≡ 0 → lent ≡ take (s .size) last → Got label lent
+got {room = room} k (stored {rows} r h) e q =
+    record { rows = rows; past = _; reads = r; fits = omega arith; is = q ∙ take-at (table rows) (drop (length (table rows)) room) (length (table rows)) refl }
+got k (no-room r h) e q = absurd (omega arith)
+got k (not-read r) e q = absurd (refusal-code r e)
+
+pub refuses : {label room last : List ℕ} (out : List ℕ) {s : Said} → length room ≡ 65535 → Answered base label room s last → (s .code ≡ 0 → ⊥) → Relabels label out s out
+refuses out k (stored r h) n = absurd (n refl)
+refuses out k (no-room r h) n = relabel.long-table r (omega arith)
+refuses out k (not-read r) n = relabel.not-read r
+
+-- ---- the writing
+
+same-rows : {rs qs : List Row} → proper-rows rs ≡ proper-rows qs → rs ≡ qs
+same-rows e = cc
+
+not-both : {rs : List Row} {at : ℕ} → proper-rows rs ≡ improper-at at → ⊥
+not-both e = let z : _≡_ {A = ℕ} 0 1 = cc in omega arith
+
+short : {label : List ℕ} {rows : List Row} {i : ℕ} → Reads base label (accepted rows i) → length label ≤ 65535
+short (read h j) = h
+
+pub anew : {label lent out last : List ℕ} {s : Said} → Got label lent → Writes label lent out s last → Relabels label out s last
+anew {label} {lent} g w = go w
+  where
+    ruled : Ruled label lent (proper-rows (g .rows))
+    ruled = subst (λ (l : List ℕ). Ruled label l (proper-rows (g .rows))) (sym (g .is)) (read-ruled base label (g .reads))
+
+    same : {rows : List Row} → Ruled label lent (proper-rows rows) → g .rows ≡ rows
+    same v = same-rows (verdict-once label (short (g .reads)) lent ruled v)
+
+    reads : {rows : List Row} → Ruled label lent (proper-rows rows) → Reads base label (accepted rows (g .past))
+    reads v = subst (λ (l : List Row). Reads base label (accepted l (g .past))) (same v) (g .reads)
+
+    fits : {rows : List Row} → Ruled label lent (proper-rows rows) → length (table rows) ≤ 65535
+    fits v = subst (λ (l : List Row). length (table l) ≤ 65535) (same v) (g .fits)
+
+    go : {out last : List ℕ} {s : Said} → Writes label lent out s last → Relabels label out s last
+    go (long-label h) = absurd (omega (arith, short (g .reads)))
+    go (no-table h v) = absurd (not-both (verdict-once label (short (g .reads)) lent ruled v))
+    go (long-written h v l) = relabel.long-written (reads v) (fits v) l
+    go (short-room h v l m) = relabel.short-room (reads v) (fits v) l m
+    go (put h v l m) = relabel.written (reads v) (fits v) l m
+
+-- ---- the same of the numbers that are handed back
+
+told : {label out last : List ℕ} {s : Said} {c p n : ℕ} → c ≡ s .code → p ≡ s .place → n ≡ s .size → Relabels label out s last → Relabels label out (says c p n) last
+told e f g r = rw (e, f, g) r
+
+pub refused-reading : {label room last : List ℕ} (out : List ℕ) {s : Said} {c p n : ℕ} → length room ≡ 65535 → Answered base label room s last → c ≡ s .code → (c ≡ 0 → ⊥) → p ≡ s .place → n ≡ s .size →
+    Relabels label out (says c p n) out
+refused-reading out k a e z f g = told e f g (refuses out k a (λ q. z (e ∙ q)))
+
+pub written-anew : {label room kept lent out last : List ℕ} {s s′ : Said} {c n c′ p′ n′ : ℕ} → length room ≡ 65535 → Answered base label room s kept → c ≡ s .code → c ≡ 0 → n ≡ s .size → lent ≡ take n kept →
+    Writes label lent out s′ last → c′ ≡ s′ .code → p′ ≡ s′ .place → n′ ≡ s′ .size → Relabels label out (says c′ p′ n′) last
+written-anew {kept = kept} k a e z g q w e′ f′ g′ = told e′ f′ g′ (anew (got k a (sym e ∙ z) (q ∙ ap (λ (i : ℕ). take i kept) g)) w)
+
+-- ---- the first bytes
+
+pub some-front : (s : List ℕ) (n : ℕ) → take (n - 0) (drop 0 s) ≡ take n s
+some-front s n = let e : n - 0 ≡ n = omega arith in rw e
+
+pub all-front : (s : List ℕ) (n : ℕ) → length s < n → s ≡ take n s
+all-front s n h = sym (take-all n s (omega arith))
