@@ -1,10 +1,16 @@
 -- The reading of a label: a function from bytes to the outcome, equal to the rules both ways; the checked examples; bytes beyond END; other modes;
--- where each row comes from.
+-- where each row comes from; the first fault, said of labels; and that a label follows the rules in exactly one way or not at all.
 pub mod Reader
 pub mod Examples
 pub mod Outcomes
+pub mod OneWay
 pub mod EndWord
 pub mod Beyond
 pub mod Modes
 pub mod Rows
 pub mod Stretches
+pub mod Behind
+pub mod Known
+pub mod Completion
+pub mod Stays
+pub mod FirstFault
