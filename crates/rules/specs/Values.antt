@@ -64,6 +64,11 @@ signed neg n = record { minus = neg && not (eqb n 0); size = n }
 
 -- ---- values and limits
 
+-- there is no value
+abbrev pub absent : {A : Type 0} → Option A → Bool
+absent none = true
+absent (some a) = false
+
 -- a value within its limit
 abbrev pub within : {A : Type 0} → Bool → A → Option A
 within true a = some a
@@ -75,17 +80,25 @@ same [] (b ∷ t) = false
 same (a ∷ s) [] = false
 same (a ∷ s) (b ∷ t) = eqb a b && same s t
 
--- 12.3.4.1: the reserved identifiers: END, OBJECT, END_OBJECT, GROUP, END_GROUP, BEGIN_OBJECT; in PVL also BEGIN_GROUP. At most 60 bytes otherwise.
-abbrev pub named : Bool → Bool → Name → Option Elem
-named pvl off n =
+-- reserved, in either case: END, OBJECT, END_OBJECT, GROUP, END_GROUP, BEGIN_OBJECT. They serve for nothing else. In PVL also BEGIN_GROUP.
+-- What such an identifier is; what any other is, is given.
+abbrev pub reserved : Bool → Bool → Name → Option Elem → Option Elem
+reserved pvl off n other =
     cond (same n (ascii "END")) (some (end off))
     (cond (same n (ascii "OBJECT")) (some (the OBJECT))
     (cond (same n (ascii "END_OBJECT")) (some (the END-OBJECT))
     (cond (same n (ascii "GROUP")) (some (the GROUP))
     (cond (same n (ascii "END_GROUP")) (some (the END-GROUP))
     (cond (same n (ascii "BEGIN_OBJECT")) (some (the BEGIN-OBJECT))
-    (cond (pvl && same n (ascii "BEGIN_GROUP")) (some (the BEGIN-GROUP))
-    (within (leb (length n) 60) (name n))))))))
+    (cond (pvl && same n (ascii "BEGIN_GROUP")) (some (the BEGIN-GROUP)) other))))))
+
+-- identifier: At most 60 bytes.
+abbrev pub named : Bool → Bool → Name → Option Elem
+named pvl off n = reserved pvl off n (within (leb (length n) 60) (name n))
+
+-- an identifier that is not reserved
+abbrev pub unreserved : Name → Bool
+unreserved n = absent (reserved false true n none)
 
 -- integer, based integer: from -(2^63 - 1) to 2^63 - 1
 abbrev pub fits : Whole → Bool

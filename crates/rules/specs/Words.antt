@@ -1,28 +1,29 @@
 -- The forms of a word (12.3.1, 12.3.2, 12.3.4): each type below is a rule of the source's grammar, which stands above it.
 use Prim.Native.Nat.{ℕ}
 use Prim.Native.Char.{code as byte}
-use mathlib.Core.Bool.{Bool, true, false}
+use mathlib.Core.Bool.{Bool, true, false, not, _&&_, _||_}
 use mathlib.Core.Option.{none, some}
 use mathlib.Core.Path.{_≡_}
 use mathlib.Core.List.{List, [], _∷_, _++_, map}
-use lib.Dec.{leb}
+use lib.Dec.{leb, eqb}
 use lib.ListN.{length}
-use Rattle.rules.specs.Bytes.{between, digit, letter, alnum, fold, All}
+use Rattle.rules.specs.Bytes.{ascii, between, digit, letter, alnum, fold, All, front, pair, anywhere}
 use Rattle.rules.specs.Data.{Whole, Elem}
 use Rattle.rules.specs.Modes.{Mode}
-use Rattle.rules.specs.Values.{Date, in-year, in-month, Zone, utc, Second, Time, Written, an-identifier, a-whole, a-based, a-decimal, a-date, a-time, a-date-time, a-range, number, signed, value}
+use Rattle.rules.specs.Values.{Date, in-year, in-month, Zone, utc, Second, Time, Written, an-identifier, a-whole, a-based, a-decimal, a-date, a-time, a-date-time, a-range, number, signed, same, each, value}
 
 -- ---- identifiers
 
--- [letter | digit | _letter | _digit]*
-pub data More : List ℕ → Type 0 where
-  no-more : More []
-  plain : {b : ℕ} {s : List ℕ} → alnum b ≡ true → More s → More (b ∷ s)
-  under : {b : ℕ} {s : List ℕ} → alnum b ≡ true → More s → More (byte "_" ∷ b ∷ s)
+-- letters and digits with underscores between
+abbrev pub nameByte : ℕ → Bool
+nameByte b = alnum b || eqb b (byte "_")
 
 -- identifier ::= letter [letter | digit | _letter | _digit]*
-pub data Identifier : List ℕ → Type 0 where
-  identifier : {b : ℕ} {s : List ℕ} → letter b ≡ true → More s → Identifier (b ∷ s)
+-- identifier (12.3.4): a letter, then letters and digits with single underscores between; no `__`, none last.
+abbrev pub isIdentifier : List ℕ → Bool
+isIdentifier w =
+    front letter w && (each nameByte w
+    && (not (anywhere (pair (byte "_") (byte "_")) w) && not (anywhere (λ s. same s (ascii "_")) w)))
 
 -- ---- numbers
 
@@ -116,7 +117,7 @@ pub data DateTime : List ℕ → Written → Type 0 where
 -- ---- all forms of a word
 
 pub data Shape (m : Mode) : List ℕ → Written → Type 0 where
-  identifier-word : {w : List ℕ} → Identifier w → Shape m w (an-identifier (map fold w))
+  identifier-word : {w : List ℕ} → isIdentifier w ≡ true → Shape m w (an-identifier (map fold w))
   integer-word : {w : List ℕ} {n : Whole} → Integer w n → Shape m w (a-whole n)
   based-word : {w : List ℕ} {v : Written} → Based w v → Shape m w v
   real-word : {w : List ℕ} {v : Written} → Decimal w v → Shape m w v

@@ -8,7 +8,8 @@ use lib.Dec.{leb, eqb}
 use lib.ListN.{length}
 use Rattle.rules.specs.Bytes.{ascii, letter, alnum, fold}
 use Rattle.rules.specs.Data.{Whole, Real, Moment, Elem, name, the, end, integer, based, real, moment, range, text, symbol, Kind, object, group, Op, first, times, divided, Opens, outside, inside, depth, attribute, pointer, opened, closed, an-integer, a-real, a-moment, a-text, a-symbol, a-unit, sequence, sequence-end, set, set-end, last}
-use Rattle.rules.specs.Values.{significant, named}
+use Rattle.rules.specs.Values.{significant, unreserved}
+use Rattle.rules.specs.Words.{isIdentifier}
 use Rattle.rules.specs.Meaning.{Sense}
 
 -- ---- numbers, dates and times
@@ -63,41 +64,9 @@ momentBytes t =
 
 -- ---- the test that a symbol stands bare by
 
--- a letter or digit; an underscore with none before it; where an underscore stands before
-abbrev pub nextMore : Bool → Bool → Bool → Bool → Bool → Bool
-nextMore true y u a b = a
-nextMore false true false a b = b
-nextMore false true true a b = false
-nextMore false false u a b = false
-
-abbrev pub more : Bool → List ℕ → Bool
-more u [] = not u
-more u (b ∷ s) = nextMore (alnum b) (eqb b (byte "_")) u (more false s) (more true s)
-
-abbrev pub isIdentifier : List ℕ → Bool
-isIdentifier [] = false
-isIdentifier (b ∷ s) = letter b && more false s
-
--- a word that `named` takes for a name: unreserved, and of at most 60 bytes
-abbrev pub aName : Elem → Bool
-aName (name n) = true
-aName (the f) = false
-aName (end b) = false
-aName (integer w) = false
-aName (based w) = false
-aName (real x) = false
-aName (moment t) = false
-aName (range lo hi) = false
-aName text = false
-aName symbol = false
-
-abbrev pub ofName : Option Elem → Bool
-ofName none = false
-ofName (some e) = aName e
-
 -- an unreserved identifier of at most 60 bytes
 unfoldable pub isName : List ℕ → Bool
-isName w = isIdentifier w && ofName (named false true (map fold w))
+isName w = isIdentifier w && (unreserved (map fold w) && leb (length w) 60)
 
 -- ---- symbols and units
 
