@@ -5,7 +5,7 @@ use mathlib.Core.List.{List, [], _∷_, _++_}
 use lib.ListN.{length, drop}
 use Rattle.rules.specs.Data.{Span, Kind, Row, attribute, pointer, opened, closed, an-integer, a-real, a-moment, a-text, a-symbol, a-unit, sequence, sequence-end, set, set-end, last}
 use Rattle.rules.specs.Table.{encode, table}
-use Rattle.rules.specs.Reading.{Said}
+use Rattle.rules.specs.Reading.{longest, Said}
 use Rattle.rules.specs.Proper.{stretch, proper-rows, improper-at, Ruled}
 use Rattle.rules.specs.Meaning.{reassemble, foldAll}
 
@@ -23,12 +23,12 @@ says c i n = record { code = c; place = i; size = n }
 
 -- what every question answers of a label over 65,535 bytes, and of a table that is not proper: 1, 12
 pub data Refused (label lent : List ℕ) : Said → Type 0 where
-  long-label : 65535 < length label → Refused label lent (says 1 65535 0)
-  no-table : {at : ℕ} → length label ≤ 65535 → Ruled label lent (improper-at at) → Refused label lent (says 12 at 0)
+  long-label : longest < length label → Refused label lent (says 1 longest 0)
+  no-table : {at : ℕ} → length label ≤ longest → Ruled label lent (improper-at at) → Refused label lent (says 12 at 0)
 
 -- the rows of a proper table over at most 65,535 bytes
 pub record Rows (label lent : List ℕ) (rows : List Row) : Type 0 where
-  pub short : length label ≤ 65535
+  pub short : length label ≤ longest
   pub proper : Ruled label lent (proper-rows rows)
 
 -- ---- The text reader takes label, table and row offset: 1, 12, 15 (not kind 13), 11, else 0, with place 0 throughout except as 1 and 12 say, and the

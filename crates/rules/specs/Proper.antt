@@ -99,10 +99,6 @@ pub record Proper (given : List ℕ) (rows : List Row) : Type 0 where
   pub tabled : Tabled rows
   pub spans : Each (Holds given) rows
 
--- of a table's bytes
-abbrev pub ProperBytes : List ℕ → List ℕ → Type 0
-ProperBytes given lent = (rows : List Row) × (lent ≡ table rows) × Proper given rows
-
 -- some proper table begins with these rows
 abbrev pub Begins : List ℕ → List Row → Type 0
 Begins given rows = (rest : List Row) × Proper given (rows ++ rest)

@@ -29,10 +29,14 @@ pub data Judged (m : Mode) (l : List ℕ) : Outcome → Type 0 where
   -- 10: the input ends early; its length
   ends-early : {i : ℕ} {es : List Placed} {r : List ℕ} → Cut m 0 l es i r → Early m es → Gap m r [] → Judged m l (refused 10 (length l))
 
+-- A label of any length may follow these rules; 65,535 bounds the calls and is no part of the rules.
+abbrev pub longest : ℕ
+longest = 65535
+
 -- what a reading gives: 1 first
 pub data Reads (m : Mode) (l : List ℕ) : Outcome → Type 0 where
-  too-long : 65535 < length l → Reads m l (refused 1 65535)
-  read : {o : Outcome} → length l ≤ 65535 → Judged m l o → Reads m l o
+  too-long : longest < length l → Reads m l (refused 1 longest)
+  read : {o : Outcome} → length l ≤ longest → Judged m l o → Reads m l o
 
 -- ---- the call, with the lent room
 

@@ -217,10 +217,6 @@ abbrev pub writesAll : Prior → Opens → List Sense → List ℕ
 writesAll q o [] = []
 writesAll q o (r ∷ rs) = writes q o r ++ writesAll (prior r) (after o r) rs
 
--- the label that these rows write; the line of END ends CR LF too
-abbrev pub written : List Sense → List ℕ
-written m = writesAll start outside m ++ (13 ∷ 10 ∷ [])
-
--- the canonical label of a meaning
+-- the canonical label of a meaning: what its rows write, and the line end behind END
 abbrev pub canonical : List Sense → List ℕ
-canonical m = written m
+canonical m = writesAll start outside m ++ (13 ∷ 10 ∷ [])

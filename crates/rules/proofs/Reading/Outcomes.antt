@@ -79,7 +79,7 @@ module _ (m : Mode) where
   break-code (foreign h) = omega arith
 
   fault-code : {r : List ℕ} {c : ℕ} → Fault m r c → Within 2 10 c
-  fault-code (no-element h) = omega arith
+  fault-code (no-element f g h k) = omega arith
   fault-code (no-form t f) = omega arith
   fault-code (Elements.past-limit t f) = omega arith
   fault-code (broken-text t h b) = break-code b
