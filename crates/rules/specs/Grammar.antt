@@ -1,10 +1,14 @@
 -- Statements and values, as 12.4 and 12.5 of the source print them: which elements make a label, and the rows that they give.
 -- Each type below is a rule of the source's grammar, which stands above it.
-use Prim.Native.Nat.{ℕ, zero, suc, _≤_, _<_}
+use Prim.Native.Nat.{ℕ, suc, _≤_, _<_}
 use mathlib.Core.Path.{_≡_}
-use mathlib.Core.Bool.{Bool, true, false}
+use mathlib.Core.Bool.{Bool, true}
 use mathlib.Core.List.{List, [], _∷_, _++_}
-use Rattle.rules.specs.Data.{Span, Whole, one, Real, Moment, Name, Fixed, OBJECT, END-OBJECT, GROUP, END-GROUP, BEGIN-OBJECT, BEGIN-GROUP, equals, comma, star, slash, caret, less, greater, lpar, rpar, lbrace, rbrace, power, semicolon, Elem, name, the, end, integer, based, real, moment, range, text, symbol, Placed, _on_, Kind, object, group, opener, beginner, closer, Op, first, times, divided, Row, attribute, pointer, opened, closed, an-integer, a-real, a-moment, a-text, a-symbol, a-unit, sequence, sequence-end, set, set-end, last}
+use Rattle.rules.specs.Data.{Span, Whole, one, Real, Moment, Name, Fixed, equals, comma, star, slash, caret, less, greater, lpar}
+use Rattle.rules.specs.Data.{rpar, lbrace, rbrace, power, semicolon, name, the, end, integer, based, real, moment, range, text}
+use Rattle.rules.specs.Data.{symbol, Placed, _on_, Kind, opener, beginner, closer, Op, first, times, divided, Row, attribute, pointer}
+use Rattle.rules.specs.Data.{opened, closed, an-integer, a-real, a-moment, a-text, a-symbol, a-unit, sequence, sequence-end, set}
+use Rattle.rules.specs.Data.{set-end, last}
 use Rattle.rules.specs.Modes.{Mode}
 
 -- The relaxed grammar drops four limits, and nothing else: the depth, the equality of the closing name, the size of an
@@ -82,6 +86,7 @@ module _ (m : Mode) (s : Strictness) where
     side-by-side : m .rows-beside ≡ true → Between []
     by-comma : {p : Span} → m .rows-comma ≡ true → Between (the comma on p ∷ [])
 
+  -- [sequence_1D]*
   pub data Rows : List Placed → List Row → Type 0 where
     no-row : Rows [] []
     and-row : {bs xs ys : List Placed} {rs qs : List Row} →
