@@ -27,7 +27,7 @@ module _ (m : Mode) (s : Strictness) where
     two-stars : ExpOp power
     one-caret : m .version-1 ≡ true → ExpOp caret
 
-  -- [exp_op integer]. None written means 1.
+  -- [exp_op integer], with an exponent from -99 to 99; none written means 1
   pub data Exponent : List Placed → Whole → Type 0 where
     unwritten : Exponent [] one
     written : {x : Fixed} {p q : Span} {w : Whole} → ExpOp x → Kept s (w .size ≤ 99) → Exponent (the x on p ∷ integer w on q ∷ []) w
@@ -53,12 +53,14 @@ module _ (m : Mode) (s : Strictness) where
 
   -- scalar_value ::= numeric_value | date_time_value | text_string_value | symbolic_value
   pub data Scalar : List Placed → List Row → Type 0 where
+    -- numeric_value ::= integer [units_expression] | based_integer [units_expression] | real [units_expression]
     integer-value : {w : Whole} {p : Span} {us : List Placed} {rs : List Row} →
         Units us rs → Scalar (integer w on p ∷ us) (an-integer w ∷ rs)
     based-value : {w : Whole} {p : Span} {us : List Placed} {rs : List Row} →
         Units us rs → Scalar (based w on p ∷ us) (an-integer w ∷ rs)
     real-value : {x : Real} {p : Span} {us : List Placed} {rs : List Row} →
         Units us rs → Scalar (real x on p ∷ us) (a-real x ∷ rs)
+    -- date_time_value ::= date | time | date_time; text_string_value ::= quoted_text; symbolic_value ::= identifier | quoted_symbol
     date-time-value : {t : Moment} {p : Span} → Scalar (moment t on p ∷ []) (a-moment t ∷ [])
     text-value : {p : Span} → Scalar (text on p ∷ []) (a-text p ∷ [])
     symbol-value : {p : Span} → Scalar (symbol on p ∷ []) (a-symbol p ∷ [])
@@ -114,7 +116,7 @@ module _ (m : Mode) (s : Strictness) where
     range-value : {lo hi : Whole} {p : Span} → m .version-1 ≡ true →
         Value (range lo hi on p ∷ []) (sequence ∷ an-integer lo ∷ an-integer hi ∷ sequence-end ∷ [])
 
-  -- [= object_identifier], equal to the opening one
+  -- [= object_identifier]: a closing name is optional and must equal the opening one, case folded
   pub data Closing : Name → List Placed → Type 0 where
     unnamed : {n : Name} → Closing n []
     named : {n n′ : Name} {p q : Span} → Kept s (n′ ≡ n) → Closing n (the equals on p ∷ name n′ on q ∷ [])
@@ -144,13 +146,14 @@ module _ (m : Mode) (s : Strictness) where
       -- pointer_stmt ::= ^ object_identifier = value
       pointing : {d : ℕ} {n : Name} {p q q′ : Span} {xs es : List Placed} {rs : List Row} →
           Value xs rs → Semicolon es → Statement d (the caret on p ∷ name n on q ∷ the equals on q′ ∷ (xs ++ es)) (pointer q ∷ rs)
-      -- object_stmt ::= object = object_identifier [statement]* end_object [= object_identifier], and group_stmt alike
+      -- object_stmt ::= object = object_identifier [statement]* end_object [= object_identifier], and group_stmt alike.
+      -- OBJECT and GROUP together nest at most 80 deep.
       block : {d : ℕ} {k : Kind} {f : Fixed} {n : Name} {p q q′ : Span} (t : Span) {es xs cs es′ : List Placed} {rs : List Row} →
           Opening k f → Kept s (d < 80) → Semicolon es → Statements (suc d) xs rs → Closing n cs → Semicolon es′ →
           Statement d (the f on p ∷ the equals on q ∷ name n on q′ ∷ (es ++ (xs ++ (the (closer k) on t ∷ (cs ++ es′)))))
           (opened k q′ ∷ (rs ++ (closed k ∷ [])))
 
-  -- label ::= [statement]* end
+  -- label ::= [statement]* end. END stands at depth 0, and the byte after it is spacing, a line end or the input's end.
   pub data Label : List Placed → List Row → Type 0 where
     label : (b : Bool) (p : Span) {xs : List Placed} {rs : List Row} →
         Statements 0 xs rs → Kept s (b ≡ true) → Label (xs ++ (end b on p ∷ [])) (rs ++ (last (p .upto) ∷ []))

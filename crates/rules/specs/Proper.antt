@@ -5,12 +5,12 @@ use mathlib.Core.Path.{_≡_}
 use mathlib.Core.Bool.{true}
 use mathlib.Core.List.{List, [], _∷_, _++_, map}
 use lib.ListN.{length, take, drop}
-use Rattle.rules.specs.Bytes.{between, Run}
+use Rattle.rules.specs.Bytes.{Run}
 use Rattle.rules.specs.Data.{Span, Name, name, Placed, RowOf, Row, attribute, pointer, opened, closed, an-integer, a-real, a-moment}
 use Rattle.rules.specs.Data.{a-text, a-symbol, a-unit, sequence, sequence-end, set, set-end, last}
 use Rattle.rules.specs.Modes.{Mode, base}
 use Rattle.rules.specs.Words.{Form}
-use Rattle.rules.specs.Elements.{inText, inSymbol, Cut}
+use Rattle.rules.specs.Elements.{inText, inSymbol, symbolKept, Cut}
 use Rattle.rules.specs.Grammar.{strict, Label}
 use Rattle.rules.specs.Table.{encode, table}
 
@@ -65,7 +65,7 @@ TextBody w = Run inText w (byte "\"" ∷ [])
 
 -- symbols: 1 to 255 bytes from 32 to 126 other than `'`, reserved words too
 abbrev pub SymbolBody : List ℕ → Type 0
-SymbolBody w = Run inSymbol w (byte "'" ∷ []) × (between 1 255 (length w) ≡ true)
+SymbolBody w = Run inSymbol w (byte "'" ∷ []) × (symbolKept w ≡ true)
 
 -- the span lies inside the given bytes and holds what its kind allows
 pub record Held (Allowed : List ℕ → Type 0) (given : List ℕ) (p : Span) : Type 0 where

@@ -101,8 +101,12 @@ reserved pvl off n other =
     (cond (pvl && same n (ascii "BEGIN_GROUP")) (some (the BEGIN-GROUP)) other))))))
 
 -- identifier: At most 60 bytes.
+abbrev pub nameKept : Name → Bool
+nameKept n = leb (length n) 60
+
+-- an identifier is what it is reserved for, or a name within its limit
 abbrev pub named : Bool → Bool → Name → Option Elem
-named pvl off n = reserved pvl off n (within (leb (length n) 60) (name n))
+named pvl off n = reserved pvl off n (within (nameKept n) (name n))
 
 -- an identifier that is not reserved
 abbrev pub unreserved : Name → Bool

@@ -9,7 +9,7 @@ use Rattle.rules.specs.Bytes.{ascii, fold}
 use Rattle.rules.specs.Data.{Whole, Real, Moment, Kind, object, group, Op, first, times, divided, Opens, outside, inside, depth}
 use Rattle.rules.specs.Data.{attribute, pointer, opened, closed, an-integer, a-real, a-moment, a-text, a-symbol, a-unit, sequence}
 use Rattle.rules.specs.Data.{sequence-end, set, set-end, last}
-use Rattle.rules.specs.Values.{significant, unreserved}
+use Rattle.rules.specs.Values.{significant, nameKept, unreserved}
 use Rattle.rules.specs.Words.{isIdentifier}
 use Rattle.rules.specs.Meaning.{Sense}
 
@@ -68,7 +68,7 @@ momentBytes t =
 
 -- an unreserved identifier of at most 60 bytes
 unfoldable pub isName : List ℕ → Bool
-isName w = isIdentifier w && (unreserved (map fold w) && leb (length w) 60)
+isName w = isIdentifier w && (unreserved (map fold w) && nameKept w)
 
 -- ---- symbols and units
 

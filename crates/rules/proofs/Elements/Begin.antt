@@ -2,9 +2,9 @@
 use Prim.Native.Nat.{ℕ, _≤_}
 use Prim.Native.Char.{code}
 use native.Mathlib.Omega.{arith}
-use mathlib.Core.Bool.{Bool, true, false, cond, _&&_, _||_, false≢true, true≢false}
+use mathlib.Core.Bool.{Bool, true, false, cond, _&&_, _||_, true≢false}
 use mathlib.Core.Option.{Option, none, some}
-use mathlib.Core.Path.{_≡_, refl, sym, ap, subst, _∙_}
+use mathlib.Core.Path.{_≡_, refl, ap, _∙_}
 use mathlib.Core.List.{List, [], _∷_}
 use borrow.Author.Tests.{eqb-true, lt-leb, ne-eqb}
 use lib.Dec.{eqb}
@@ -85,9 +85,6 @@ blank-begins m b h = rw (blank-no-word b h, h)
 
 none-some : {f : Fixed} → _≡_ {A = Option Fixed} none (some f) → ⊥
 none-some e = let z : _≡_ {A = ℕ} 0 1 = cc in omega arith
-
-some-same : {f g : Fixed} → _≡_ {A = Option Fixed} (some f) (some g) → f ≡ g
-some-same e = cc
 
 -- each byte of the list is no byte of a word and no blank
 abbrev Apart : List Entry → Type 0

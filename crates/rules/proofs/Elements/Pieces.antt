@@ -1,16 +1,15 @@
 -- The piece at the front of the bytes: a blank, a comment, an element, a fault, or the end.
-use Prim.Native.Nat.{ℕ, suc, _+_, _≤_, _<_}
+use Prim.Native.Nat.{ℕ, suc}
 use native.Mathlib.Omega.{arith}
-use Prim.Native.Char.{code}
-use mathlib.Core.Bool.{Bool, true, false, cond, _&&_, false≢true, true≢false}
+use mathlib.Core.Bool.{Bool, true, false, cond, false≢true, true≢false}
 use mathlib.Core.Option.{Option, none, some}
 use mathlib.Core.Path.{_≡_, refl, sym, ap, subst, _∙_}
 use mathlib.Core.List.{List, [], _∷_, _++_, append-assoc}
-use borrow.Author.Tests.{eqb-true, le-leb}
-use lib.Dec.{leb, ltb, eqb}
+use borrow.Author.Tests.{le-leb}
+use lib.Dec.{leb, eqb}
 use lib.ListN.{length}
 use Rattle.rules.specs.Bytes.{between, lineEnd, wordByte, front, pair, Run, stops, goes-on}
-use Rattle.rules.specs.Data.{Span, Fixed, star, slash, power, Elem, the, text, symbol}
+use Rattle.rules.specs.Data.{star, slash, power, Elem, the, text, symbol}
 use Rattle.rules.specs.Modes.{Mode}
 use Rattle.rules.specs.Values.{Written, value}
 use Rattle.rules.specs.Words.{Shape, Form, Past, Formless}

@@ -1,23 +1,23 @@
 -- A label that a mode accepts, a mode that allows more accepts too, with the same table, if no bare BEGIN_GROUP stands in it
 -- where only the other reserves that.
-use Prim.Native.Nat.{ℕ, zero, suc, _+_, _≤_, _<_}
+use Prim.Native.Nat.{ℕ}
 use native.Mathlib.Omega.{arith}
-use mathlib.Core.Bool.{Bool, true, false, cond, not, _&&_, _||_, false≢true, true≢false}
+use mathlib.Core.Bool.{Bool, true, false, cond, _&&_, _||_, false≢true}
 use mathlib.Core.Option.{Option, none, some}
 use mathlib.Core.Path.{_≡_, refl, sym, ap, subst, _∙_}
-use mathlib.Core.List.{List, [], _∷_, _++_}
+use mathlib.Core.List.{List, [], _∷_}
 use borrow.Author.Tests.{eqb-true}
 use lib.Dec.{leb, eqb}
 use lib.ListN.{length}
-use Rattle.rules.specs.Bytes.{ascii, wordByte}
-use Rattle.rules.specs.Data.{Span, Fixed, semicolon, Name, Elem, name, the, end, integer, based, real, moment, range, text, symbol, Placed, _on_, Row, OBJECT, END-OBJECT, GROUP, END-GROUP, BEGIN-OBJECT, BEGIN-GROUP, Opens, outside, inside}
+use Rattle.rules.specs.Bytes.{ascii}
+use Rattle.rules.specs.Data.{Span, Fixed, semicolon, Name, Elem, name, the, end, integer, based, real, moment, range, text, symbol, Placed, _on_, Row, BEGIN-GROUP, Opens, outside, inside}
 use Rattle.rules.specs.Grammar.{strict, Label}
 use Rattle.rules.specs.Modes.{Mode}
 use Rattle.rules.specs.Values.{Written, an-identifier, a-whole, a-based, a-decimal, a-date, a-time, a-date-time, a-range, value, named, same, within}
-use Rattle.rules.specs.Words.{Shape, identifier-word, integer-word, based-word, real-word, date-word, time-word, date-time-word, range-word, Form}
+use Rattle.rules.specs.Words.{Shape, identifier-word, integer-word, based-word, real-word, date-word, time-word, date-time-word, range-word}
 use Rattle.rules.specs.Elements.{look, signs, signOf, isBlank, setsOff, Gap, no-gap, blank, remark, Spells, word, sign, one-star, two-stars, one-slash, quoted-text, quoted-symbol, Cut, none-more, next}
 use Rattle.rules.specs.Reading.{accepted, Judged, follows}
-use Rattle.rules.proofs.Grammar.Machine.{Group, Place, alone, within as member-of, State, at-statement, at-semicolon, at-equals, at-pointer, at-opener, at-opened, at-closer, at-closed, at-scalar, at-number, at-member, at-row, at-next-row, at-unit, at-power, at-exponent, at-factor, at-end, Answer, refuses, goes, judge, statements, after-statement, members, follows as offered, offers, step}
+use Rattle.rules.proofs.Grammar.Machine.{Group, Place, alone, within as member-of, State, at-statement, at-semicolon, at-equals, at-pointer, at-opener, at-opened, at-closer, at-closed, at-scalar, at-number, at-member, at-row, at-next-row, at-unit, at-power, at-exponent, at-factor, at-end, Answer, refuses, goes, judge, statements, after-statement, members, follows as offered, step}
 use Rattle.rules.proofs.Grammar.Run.{Reach, here, by-step}
 use Rattle.rules.proofs.Grammar.Complete.{refuses-goes, complete}
 use Rattle.rules.proofs.Grammar.Wider.{Allows, label-too}

@@ -1,26 +1,26 @@
 -- The reading of a label, as a function: the next element, and the machine's step over it, until END or a fault.
-use Prim.Native.Nat.{ℕ, zero, suc, _+_, _-_, _≤_, _<_}
+use Prim.Native.Nat.{ℕ, zero, suc, _+_, _<_}
 use native.Mathlib.Omega.{arith}
 use native.Mathlib.Nat.{zero-add}
 use mathlib.Core.Bool.{Bool, true, false, cond, true≢false, false≢true}
-use mathlib.Core.Path.{_≡_, refl, sym, ap, ap₂, subst, _∙_}
-use mathlib.Core.List.{List, [], _∷_, _++_, append-assoc, append-nil}
+use mathlib.Core.Path.{_≡_, refl, sym, ap, subst, _∙_}
+use mathlib.Core.List.{List, [], _++_, append-assoc, append-nil}
 use borrow.Author.Tests.{leb-true, leb-false, le-leb, lt-leb}
-use lib.Dec.{leb, ltb, eqb}
+use lib.Dec.{leb}
 use lib.ListN.{length, length-append, drop}
-use Rattle.rules.specs.Data.{Span, Fixed, Elem, name, the, end, integer, based, real, moment, range, text, symbol, Placed, _on_, Row, Opens, outside, inside, depth}
+use Rattle.rules.specs.Data.{Elem, name, the, end, integer, based, real, moment, range, text, symbol, Placed, _on_, Row, Opens, outside}
 use Rattle.rules.specs.Grammar.{strict, Label}
 use Rattle.rules.specs.Modes.{Mode}
-use Rattle.rules.specs.Faults.{Viable, Refused, Early}
+use Rattle.rules.specs.Faults.{Refused, Early}
 use Rattle.rules.specs.Elements.{Gap, Spells, placed, Cut, none-more, next, Fault}
 use Rattle.rules.specs.Reading.{longest, Outcome, accepted, refused, Judged, follows, misspelled, misplaced, ends-early, Reads, too-long, read, Said, Answered, stored, no-room, not-read}
 use Rattle.rules.specs.Table.{table}
-use Rattle.rules.proofs.Grammar.Machine.{Group, in-sequence, in-row, in-set, Place, alone, within, Else, no-else, any-value, a-row, a-set-end, State, at-statement, at-semicolon, at-equals, at-pointer, at-opener, at-opened, at-closer, at-closed, at-scalar, at-number, at-member, at-row, at-next-row, at-unit, at-power, at-exponent, at-factor, at-end, Answer, refuses, goes, step}
-use Rattle.rules.proofs.Grammar.Run.{Reach, here, by-step, reading, run, trace, reach-run}
+use Rattle.rules.proofs.Grammar.Machine.{State, at-statement, at-semicolon, at-equals, at-pointer, at-opener, at-opened, at-closer, at-closed, at-scalar, at-number, at-member, at-row, at-next-row, at-unit, at-power, at-exponent, at-factor, at-end, Answer, refuses, goes, step}
+use Rattle.rules.proofs.Grammar.Run.{Reach, here, by-step, reading, trace, reach-run}
 use Rattle.rules.proofs.Grammar.Run as Run
 use Rattle.rules.proofs.Grammar.Rest.{r-end}
 use Rattle.rules.proofs.Grammar.Complete.{refuses-goes, complete}
-use Rattle.rules.proofs.Grammar.Theorems.{whole, sound-reach, label→run, refused-at, viable→taken, refused→reading, early, reach→viable, same-code, reach-more}
+use Rattle.rules.proofs.Grammar.Theorems.{whole, sound-reach, refused-at, viable→taken, early, reach→viable, same-code, reach-more}
 use Rattle.rules.proofs.Elements.Next.{Found, found, faulty, none-left, nextElement, NextIs, finds, faults, ends, spells-some, next-sound, next-complete}
 
 abbrev pub isEnd : State → Bool

@@ -1,12 +1,12 @@
 -- Identifiers by one pass over the bytes, which is equal to the rules' test.
 use Prim.Native.Nat.{ℕ}
-use mathlib.Core.Bool.{Bool, true, false, not, _&&_, _||_, true≢false}
+use mathlib.Core.Bool.{Bool, true, false, not, _&&_, true≢false}
 use mathlib.Core.Path.{_≡_, refl, sym, ap, _∙_}
 use mathlib.Core.List.{List, [], _∷_}
 use borrow.Author.Tests.{eqb-true}
 use lib.Dec.{eqb}
 use lib.ListN.{drop}
-use Rattle.rules.specs.Bytes.{ascii, digit, letter, alnum, front, pair, anywhere}
+use Rattle.rules.specs.Bytes.{ascii, letter, alnum, front, pair, anywhere}
 use Rattle.rules.specs.Values.{same, each}
 use Rattle.rules.specs.Words.{nameByte}
 pub use Rattle.rules.specs.Words.{isIdentifier}

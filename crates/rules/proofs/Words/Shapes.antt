@@ -1,11 +1,11 @@
 -- The forms of a word, as a function: one pattern for all of them, and each rule of the source against its part of it.
-use Prim.Native.Nat.{ℕ, suc, _≤_, _<_}
+use Prim.Native.Nat.{ℕ, _≤_}
 use native.Mathlib.Omega.{arith}
-use mathlib.Core.Bool.{Bool, true, false, cond, not, _&&_, _||_, false≢true, true≢false}
+use mathlib.Core.Bool.{Bool, true, false, not, _||_, false≢true, true≢false}
 use mathlib.Core.Option.{Option, none, some}
 use mathlib.Core.Path.{_≡_, refl, sym, ap, _∙_}
 use mathlib.Core.List.{List, [], _∷_, _++_, map, append-assoc, append-nil}
-use borrow.Author.Tests.{leb-true, eqb-true, ne-eqb, lt-leb, le-leb}
+use borrow.Author.Tests.{leb-true, ne-eqb, lt-leb, le-leb}
 use lib.Dec.{leb, eqb}
 use lib.ListN.{length}
 use Rattle.rules.specs.Bytes.{between, digit, letter, alnum, fold, front, pair, Run, All, one}
@@ -13,7 +13,7 @@ use Rattle.rules.specs.Bytes as Bytes
 use Rattle.rules.specs.Data.{Whole}
 use Rattle.rules.specs.Modes.{Mode}
 use Rattle.rules.specs.Values.{Date, in-year, in-month, Zone, utc, Second, Time, Written, an-identifier, a-whole, a-based, a-decimal, a-date, a-time, a-date-time, a-range, number, signed}
-use Rattle.rules.specs.Words.{Sign, unsigned, plus, minus, Digits, Unsigned, isIdentifier, Integer, signed-digits, Based, in-radix, Exponent, upper, lower, Scale, unscaled, scaled, Decimal, pointed, bare, Range, from-to, DateWord, year-doy, year-month-day, Seconds, no-second, second, decimal, ZoneMark, east, west, Zoned, local, utc-upper, utc-lower, by-hour, by-minute, TimeWord, time, DateTime, upper-T, lower-t, Shape, identifier-word, integer-word, based-word, real-word, date-word, time-word, date-time-word, range-word}
+use Rattle.rules.specs.Words.{Sign, unsigned, plus, minus, Digits, Unsigned, isIdentifier, Integer, signed-digits, Based, in-radix, Exponent, upper, lower, Scale, unscaled, scaled, pointed, bare, from-to, DateWord, year-doy, year-month-day, Seconds, no-second, second, decimal, ZoneMark, east, west, Zoned, local, utc-upper, utc-lower, by-hour, by-minute, TimeWord, time, upper-T, lower-t, Shape, identifier-word, integer-word, based-word, real-word, date-word, time-word, date-time-word, range-word}
 use Rattle.rules.proofs.Words.Runs.{both, run-all, all-run}
 use Rattle.rules.proofs.Words.Patterns.{G, stop, whole, byte, check, run, fork, Takes, t-stop, t-whole, t-byte, t-check, t-run, t-yes, t-no, matches, match-sound, match-complete, run-last}
 

@@ -1,5 +1,5 @@
 -- Names and reserved words as the writer prints them are words as the reader reads them.
-use Prim.Native.Nat.{ℕ, _-_}
+use Prim.Native.Nat.{ℕ}
 use mathlib.Core.Path.{refl, subst}
 use mathlib.Core.Bool.{Bool, true}
 use mathlib.Core.List.{List}
