@@ -11,18 +11,19 @@ use lib.Dec.{eqb}
 use Rattle.rules.specs.Bytes.{ascii, spacing, lineEnd, wordByte, among}
 use Rattle.rules.specs.Data.{Fixed, semicolon}
 use Rattle.rules.specs.Modes.{Mode}
-use Rattle.rules.proofs.Tables.Tests.{or-case, between-out}
 use Rattle.rules.specs.Elements.{isBlank, Entry, _⇒_, signs, look, signOf}
+use Rattle.rules.proofs.Tables.Tests.{or-case, between-out}
 
+-- a word, a blank, a sign, `*`, `/`, `"`, `'`, or nothing
 pub data Begin : Type 0 where
   a-word a-blank a-star a-slash a-quote an-apostrophe nothing : Begin
   a-sign : Fixed → Begin
 
 -- what is no sign by itself
-abbrev pub other : ℕ → Begin
+abbrev other : ℕ → Begin
 other b = cond (eqb b 42) a-star (cond (eqb b 47) a-slash (cond (eqb b 34) a-quote (cond (eqb b 39) an-apostrophe nothing)))
 
-abbrev pub orSign : Option Fixed → Begin → Begin
+abbrev orSign : Option Fixed → Begin → Begin
 orSign none x = x
 orSign (some f) x = a-sign f
 

@@ -10,6 +10,7 @@ use Rattle.rules.specs.Bytes.{ascii, letter, alnum, front, pair, anywher
 use Rattle.rules.specs.Values.{same, each}
 use Rattle.rules.specs.Words.{nameByte}
 pub use Rattle.rules.specs.Words.{isIdentifier}
+use Rattle.rules.proofs.Tables.Tests.{and-false}
 
 -- a letter or digit; an underscore with none before it; where an underscore stands before
 abbrev pub nextMore : Bool → Bool → Bool → Bool → Bool → Bool
@@ -34,10 +35,6 @@ no-under b h = go (eqb b 95) refl
     go : (t : Bool) → eqb b 95 ≡ t → t ≡ false
     go true e = absurd (true≢false (sym h ∙ ap alnum (eqb-true b 95 e)))
     go false e = refl
-
-and-false : (a : Bool) → (a && false) ≡ false
-and-false true = refl
-and-false false = refl
 
 clean-plain : (b : ℕ) (s : List ℕ) → alnum b ≡ true → clean (b ∷ s) ≡ clean s
 clean-plain b s h = rw (no-under b h, h)
