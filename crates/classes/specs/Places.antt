@@ -6,7 +6,6 @@ use mathlib.Core.List.{List}
 use lib.ListN.{length, getD, take, drop}
 use Rattle.rules.specs.Bytes.{Run}
 use Rattle.rules.specs.Data.{the}
-use Rattle.rules.specs.Elements.{nothing}
 
 -- the bytes from a place to another
 abbrev pub part : List ℕ → ℕ → ℕ → List ℕ

@@ -1,17 +1,17 @@
 -- Blanks and comments passed, in the rules' terms.
 use Prim.Native.Nat.{ℕ, suc, _+_, _-_, _≤_, _<_}
-use mathlib.Core.Bool.{Bool, true, false, _&&_, _||_, false≢true}
+use mathlib.Core.Bool.{Bool, true, false, _&&_}
 use mathlib.Core.Path.{_≡_, refl, sym, ap, subst, _∙_}
 use mathlib.Core.List.{List, [], _∷_, _++_}
 use native.Mathlib.Nat.{add-zero}
 use native.Mathlib.Omega.{arith}
-use borrow.Author.Tests.{eqb-true, leb-true, ne-eqb, lt-leb}
-use lib.Dec.{eqb, leb}
+use borrow.Author.Tests.{ne-eqb}
+use lib.Dec.{eqb}
 use lib.ListN.{length, getD, drop, drop-of-length-le}
 use lib.Seq.{getD-drop}
-use Rattle.rules.specs.Bytes.{lineEnd, wordByte, front, pair, Run}
+use Rattle.rules.specs.Bytes.{lineEnd, front, pair, Run}
 use Rattle.rules.specs.Modes.{base}
-use Rattle.rules.specs.Elements.{begin, a-blank, isBlank, inComment, inLine, Comment, comment, Gap, no-gap, blank, remark, Breaks, open-at-end, open-at, foreign, Fault, broken-comment}
+use Rattle.rules.specs.Elements.{isBlank, inComment, inLine, Comment, comment, Gap, no-gap, blank, remark, Breaks, open-at-end, open-at, foreign, Fault, broken-comment}
 use Rattle.classes.specs.Places.{part, EndsAt, ByteAt}
 use Rattle.elements.specs.Places.{Opens, Remarked, remarked, unclosed, Skipped, skipped, broken}
 use Rattle.elements.specs.declared.Skip.{Skip}
@@ -113,28 +113,11 @@ pub record Skipping (l : List ℕ) (from i : ℕ) : Type 0 where
 pub start : (l : List ℕ) (at : ℕ) → at ≤ length l → Skipping l at at
 start l at h = record { onward = omega arith; within = h; on = λ e k n w. w }
 
-blank-small : (b : ℕ) → isBlank b ≡ true → b ≤ 32
-blank-small b h = go (eqb b 32) refl (eqb b 9) refl (leb b 13) refl (leb 10 b) h
-  where
-    go : (x : Bool) → eqb b 32 ≡ x → (y : Bool) → eqb b 9 ≡ y → (z : Bool) → leb b 13 ≡ z → (u : Bool) → ((x || y) || (u && z)) ≡ true → b ≤ 32
-    go true e y f z g u h = omega (arith, eqb-true b 32 e)
-    go false e true f z g u h = omega (arith, eqb-true b 9 f)
-    go false e false f true g u h = omega (arith, leb-true b 13 g)
-    go false e false f false g true h = absurd (false≢true h)
-    go false e false f false g false h = absurd (false≢true h)
-
-small-no-word : (b : ℕ) → b ≤ 32 → wordByte b ≡ false
-small-no-word b h =
-    rw (lt-leb 65 b (omega arith), lt-leb 97 b (omega arith), lt-leb 48 b (omega arith), ne-eqb b 95 (λ e. omega arith), ne-eqb b 43 (λ e. omega arith), ne-eqb b 45 (λ e. omega arith), ne-eqb b 46 (λ e. omega arith), ne-eqb b 58 (λ e. omega arith), ne-eqb b 35 (λ e. omega arith))
-
-blank-begins : (b : ℕ) → isBlank b ≡ true → begin base b ≡ a-blank
-blank-begins b h = rw (small-no-word b (blank-small b h), h)
-
 pub blank-turn : (l : List ℕ) (from i : ℕ) (t : Bool) → Skipping l from i → i < length l → t ≡ isBlank (getD l i 0) → t ≡ true → Skipping l from (i + 1)
 blank-turn l from i t v h e k = record {
   onward = omega (arith, v .onward);
   within = omega arith;
-  on = λ f x n g. v .on f (omega arith) n (rw (part-cons l i f (omega arith) n) (blank (blank-begins (getD l i 0) (sym e ∙ k)) g));
+  on = λ f x n g. v .on f (omega arith) n (rw (part-cons l i f (omega arith) n) (blank (sym e ∙ k) g));
 }
 
 pub remark-turn : (l : List ℕ) (from i e : ℕ) (m : Skip) → Skipping l from i → Remarked l i m → m ≡ At e → Skipping l from e

@@ -1,6 +1,7 @@
 -- Texts, symbols and signs at a place, in the rules' terms.
 use Prim.Native.Nat.{ℕ, _+_, _-_, _≤_, _<_}
 use mathlib.Core.Bool.{Bool, true, false, _&&_}
+use mathlib.Core.Option.{some}
 use mathlib.Core.Path.{_≡_, refl, sym, ap, subst, _∙_}
 use mathlib.Core.List.{List, [], _∷_, _++_}
 use native.Mathlib.Omega.{arith}
@@ -10,7 +11,7 @@ use lib.ListN.{length, getD, drop, length-drop, length-take, drop-of-length-le}
 use Rattle.rules.specs.Bytes.{between, lineEnd, wordByte, front, pair, Run}
 use Rattle.rules.specs.Data.{Elem, the, power, text, symbol, _on_}
 use Rattle.rules.specs.Modes.{base}
-use Rattle.rules.specs.Elements.{Begin, begin, nothing, a-sign, isBlank, look, signs, inText, inSymbol, Spells, sign, one-star, two-stars, one-slash, quoted-text, quoted-symbol, Breaks, open-at-end, foreign, never, Fault, no-element, broken-text, broken-symbol, empty-symbol, long-symbol}
+use Rattle.rules.specs.Elements.{isBlank, signOf, inText, inSymbol, Spells, sign, one-star, two-stars, one-slash, quoted-text, quoted-symbol, Breaks, open-at-end, foreign, never, Fault, no-element, broken-text, broken-symbol, empty-symbol, long-symbol}
 use Rattle.classes.specs.Places.{part, EndsAt, ByteAt, Begins}
 use Rattle.elements.specs.Places.{Clear, MarkOf, m-sign, m-star, m-slash, m-quote, m-apostrophe, m-nothing}
 use Rattle.words.specs.declared.Fixed.{Fixed}
@@ -124,15 +125,8 @@ lone-star l at x b y n = single l at 42 Star b (one-star (front-byte l (at + 1) 
 
 -- ---- what a byte begins
 
-pub mark-is : (b k : ℕ) (s : Fixed) → b ≡ k → look signs k ≡ a-sign (fixedOf s) → MarkOf b (One s)
-mark-is b k s e h = m-sign (ap (look signs) e ∙ h)
-
-begins : (b : ℕ) (x : Begin) (t : Bool) → t ≡ wordByte b → t ≡ false → isBlank b ≡ false → look signs b ≡ x → begin base b ≡ x
-begins b x t e f n h = rw (sym e ∙ f, n, semi (eqb b 59)) h
-  where
-    semi : (a : Bool) → (a && false) ≡ false
-    semi true = refl
-    semi false = refl
+pub mark-is : (b k : ℕ) (s : Fixed) → b ≡ k → signOf base k ≡ some (fixedOf s) → MarkOf b (One s)
+mark-is b k s e h = m-sign (ap (signOf base) e ∙ h)
 
 no-blank-at : (l : List ℕ) (at : ℕ) → Clear l at → at < length l → isBlank (getD l at 0) ≡ false
 no-blank-at l at c h = sym (front-at isBlank l at h) ∙ c .no-blank
@@ -146,15 +140,15 @@ one-sign l at t m s c n e f k q = go (rw q at k)
     go : MarkOf (getD l at 0) (One s) → Stands l at (Next (The s at (at + 1)) (at + 1))
     go (m-sign h) =
         let w : at < length l = omega (arith, c .within) in
-        single l at (getD l at 0) s (record { within = w; is = refl }) (sign (begins (getD l at 0) (a-sign (fixedOf s)) t e f (no-blank-at l at c w) h))
+        single l at (getD l at 0) s (record { within = w; is = refl }) (sign h)
 
 pub no-sign : (l : List ℕ) (at : ℕ) (t : Bool) (m : Mark) → Clear l at → (at ≡ length l → ⊥) → t ≡ wordByte (getD l at 0) → t ≡ false → MarkOf (getD l at 0) m → m ≡ Nothing → Stands l at (FaultAt 2 at)
 no-sign l at t m c n e f k q = go (rw q at k)
   where
     go : MarkOf (getD l at 0) Nothing → Stands l at (FaultAt 2 at)
-    go (m-nothing h) =
+    go (m-nothing h o) =
         let w : at < length l = omega (arith, c .within) in
-        fails {c = 2} w (rw (unroll l at w) (no-element (begins (getD l at 0) nothing t e f (no-blank-at l at c w) h)))
+        fails {c = 2} w (rw (unroll l at w) (no-element (sym e ∙ f) (no-blank-at l at c w) h o))
 
 -- the byte of a mark
 pub star-byte : (l : List ℕ) (at : ℕ) (m : Mark) → Clear l at → (at ≡ length l → ⊥) → MarkOf (getD l at 0) m → m ≡ Asterisk → Begins l at 42
@@ -183,7 +177,13 @@ lone-slash l at m c n k q = go (rw q at k)
         let b = begins-at l at 47 c n h in
         single l at 47 Slash b (one-slash (ap (pair 47 42) (sym (begun l at 47 b)) ∙ c .no-comment))
 
+-- `;` is a sign of PVL alone
+none-at : (a : Bool) → (a && false) ≡ false
+none-at true = refl
+none-at false = refl
+
 -- none of the signs
 pub no-mark : (b : ℕ) → (b ≡ 61 → ⊥) → (b ≡ 44 → ⊥) → (b ≡ 42 → ⊥) → (b ≡ 47 → ⊥) → (b ≡ 94 → ⊥) → (b ≡ 60 → ⊥) → (b ≡ 62 → ⊥) → (b ≡ 40 → ⊥) → (b ≡ 41 → ⊥) → (b ≡ 123 → ⊥) → (b ≡ 125 → ⊥) → (b ≡ 34 → ⊥) → (b ≡ 39 → ⊥) → MarkOf b Nothing
 no-mark b n61 n44 n42 n47 n94 n60 n62 n40 n41 n123 n125 n34 n39 =
-    m-nothing (rw (ne-eqb b 61 n61, ne-eqb b 44 n44, ne-eqb b 42 n42, ne-eqb b 47 n47, ne-eqb b 94 n94, ne-eqb b 60 n60, ne-eqb b 62 n62, ne-eqb b 40 n40, ne-eqb b 41 n41, ne-eqb b 123 n123, ne-eqb b 125 n125, ne-eqb b 34 n34, ne-eqb b 39 n39))
+    m-nothing (rw (none-at (eqb b 59), ne-eqb b 61 n61, ne-eqb b 44 n44, ne-eqb b 94 n94, ne-eqb b 60 n60, ne-eqb b 62 n62, ne-eqb b 40 n40, ne-eqb b 41 n41, ne-eqb b 123 n123, ne-eqb b 125 n125))
+    (rw (ne-eqb b 42 n42, ne-eqb b 47 n47, ne-eqb b 34 n34, ne-eqb b 39 n39))

@@ -1,15 +1,16 @@
 -- What the functions of the crate say of the places of a label.
 use Prim.Native.Nat.{ℕ, _+_, _-_, _≤_, _<_}
 use mathlib.Core.Bool.{true, false}
+use mathlib.Core.Option.{none, some}
 use mathlib.Core.Path.{_≡_}
 use mathlib.Core.List.{List}
 use lib.ListN.{length, getD, drop}
-use Rattle.rules.specs.Bytes.{front, pair}
+use Rattle.rules.specs.Bytes.{ascii, among, front, pair}
 use Rattle.rules.specs.Data.{the}
 use Rattle.words.specs.Says.{fixedOf}
 use Rattle.words.specs.declared.Fixed.{Fixed}
 use Rattle.rules.specs.Modes.{base}
-use Rattle.rules.specs.Elements.{nothing, a-sign, isBlank, look, signs, inWord, Comment, Gap, Fault}
+use Rattle.rules.specs.Elements.{isBlank, signOf, inWord, Comment, Gap, Fault}
 use Rattle.elements.specs.declared.Skip.{Skip}
 use Rattle.elements.specs.declared.Skip.the-variants.{At, Broken}
 use Rattle.elements.specs.declared.Mark.{Mark}
@@ -46,9 +47,9 @@ pub data Skipped (l : List ℕ) (from : ℕ) : Skip → Type 0 where
 
 -- what a byte begins
 pub data MarkOf (b : ℕ) : Mark → Type 0 where
-  m-sign : {s : Fixed} → look signs b ≡ a-sign (fixedOf s) → MarkOf b (One s)
+  m-sign : {s : Fixed} → signOf base b ≡ some (fixedOf s) → MarkOf b (One s)
   m-star : b ≡ 42 → MarkOf b Asterisk
   m-slash : b ≡ 47 → MarkOf b Stroke
   m-quote : b ≡ 34 → MarkOf b Quote
   m-apostrophe : b ≡ 39 → MarkOf b Apostrophe
-  m-nothing : look signs b ≡ nothing → MarkOf b Nothing
+  m-nothing : signOf base b ≡ none → among (ascii "*/\"'") b ≡ false → MarkOf b Nothing

@@ -1,6 +1,6 @@
 -- What a word is by its first byte.
 use Prim.Native.Nat.{ℕ, _≤_}
-use mathlib.Core.Bool.{Bool, true, false, not, _&&_, false≢true}
+use mathlib.Core.Bool.{Bool, true, false, not, false≢true}
 use mathlib.Core.Path.{_≡_, refl, sym, ap, subst, _∙_}
 use mathlib.Core.List.{List, [], _∷_}
 use native.Mathlib.Omega.{arith}
@@ -15,16 +15,12 @@ use Rattle.forms.specs.declared.Form.{Form}
 use Rattle.forms.specs.declared.Form.the-variants.{NoForm, Name}
 use Rattle.forms.specs.Forms.{Reads, Signed, minus, plus, unsigned}
 use Rattle.rules.specs.Modes.{base}
-use Rattle.rules.proofs.Words.Identifiers.{more, isIdentifier}
+use Rattle.rules.proofs.Words.Identifiers.{more, identifier-pass}
 use Rattle.forms.proofs.Reading.{r-yes, r-no, r-minus, r-plus, r-unsigned}
 
 front-first : (c : ℕ → Bool) (w : List ℕ) → c 0 ≡ false → front c w ≡ c (getD w 0 0)
 front-first c [] z = sym z
 front-first c (b ∷ s) z = refl
-
-named : (w : List ℕ) → isIdentifier w ≡ (front letter w && more false (drop 1 w))
-named [] = refl
-named (b ∷ s) = refl
 
 module _ (w : List ℕ) (x : ℕ) (y : ByteAt w 0 x) (t : Bool) (k : t ≡ letter x) where
   lettered : (b : Bool) → t ≡ b → front letter w ≡ b
@@ -38,10 +34,10 @@ module _ (w : List ℕ) (x : ℕ) (y : ByteAt w 0 x) (t : Bool) (k : t ≡ lette
       go (b ∷ s) e = omega arith
 
   pub shape-name : (u : Bool) → t ≡ true → u ≡ more false (drop 1 w) → u ≡ true → Reads (g-word base) w 0 Name
-  shape-name u h e f = r-yes w 0 Name (lettered true h) (record { reads = rw (named w, lettered true h, sym e ∙ f) })
+  shape-name u h e f = r-yes w 0 Name (lettered true h) (record { reads = rw (identifier-pass w, lettered true h, sym e ∙ f) })
 
   pub shape-unnamed : (u : Bool) → t ≡ true → u ≡ more false (drop 1 w) → u ≡ false → Reads (g-word base) w 0 NoForm
-  shape-unnamed u h e f = r-yes w 0 NoForm (lettered true h) (record { reads = rw (named w, lettered true h, sym e ∙ f) })
+  shape-unnamed u h e f = r-yes w 0 NoForm (lettered true h) (record { reads = rw (identifier-pass w, lettered true h, sym e ∙ f) })
 
   pub sign-there : {n : ℕ} → Signed x n → n ≤ length w
   sign-there (minus q) = omega (arith, y .inside)

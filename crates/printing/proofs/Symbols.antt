@@ -6,9 +6,9 @@ use mathlib.Core.List.{List, [], _∷_, _++_, map}
 use Rattle.rules.specs.Bytes.{fold}
 use Rattle.rules.specs.Data.{name, the, end, integer, based, real, moment, range, text, symbol}
 use Rattle.rules.specs.Modes.{base}
-use Rattle.rules.specs.Written.{aName, isName, symbolBytes, isOne, exponentBytes, decimal}
+use Rattle.rules.specs.Written.{isName, symbolBytes, isOne, exponentBytes, decimal}
 use Rattle.rules.proofs.Elements.Pieces.{Verdict, is, over, formless, Classified, classify, form-once, past-once, formless-once}
-use Rattle.rules.proofs.Tables.Contents.{name-word, form-name}
+use Rattle.rules.proofs.Tables.Contents.{aName, name-word, form-name}
 use Rattle.rules.proofs.Written.Folds.{name-fold}
 use Rattle.words.specs.Says.{whole, said, Means}
 use Rattle.words.specs.declared.Value.{Value}

@@ -1,10 +1,14 @@
 -- Statements and values, as 12.4 and 12.5 of the source print them: which elements make a label, and the rows that they give.
 -- Each type below is a rule of the source's grammar, which stands above it.
-use Prim.Native.Nat.{ℕ, zero, suc, _≤_, _<_}
+use Prim.Native.Nat.{ℕ, suc, _≤_, _<_}
 use mathlib.Core.Path.{_≡_}
-use mathlib.Core.Bool.{Bool, true, false}
+use mathlib.Core.Bool.{Bool, true}
 use mathlib.Core.List.{List, [], _∷_, _++_}
-use Rattle.rules.specs.Data.{Span, Whole, one, Real, Moment, Name, Fixed, OBJECT, END-OBJECT, GROUP, END-GROUP, BEGIN-OBJECT, BEGIN-GROUP, equals, comma, star, slash, caret, less, greater, lpar, rpar, lbrace, rbrace, power, semicolon, Elem, name, the, end, integer, based, real, moment, range, text, symbol, Placed, _on_, Kind, object, group, opener, beginner, closer, Op, first, times, divided, Row, attribute, pointer, opened, closed, an-integer, a-real, a-moment, a-text, a-symbol, a-unit, sequence, sequence-end, set, set-end, last}
+use Rattle.rules.specs.Data.{Span, Whole, one, Real, Moment, Name, Fixed, equals, comma, star, slash, caret, less, greater, lpar}
+use Rattle.rules.specs.Data.{rpar, lbrace, rbrace, power, semicolon, name, the, end, integer, based, real, moment, range, text}
+use Rattle.rules.specs.Data.{symbol, Placed, _on_, Kind, opener, beginner, closer, Op, first, times, divided, Row, attribute, pointer}
+use Rattle.rules.specs.Data.{opened, closed, an-integer, a-real, a-moment, a-text, a-symbol, a-unit, sequence, sequence-end, set}
+use Rattle.rules.specs.Data.{set-end, last}
 use Rattle.rules.specs.Modes.{Mode}
 
 -- The relaxed grammar drops four limits, and nothing else: the depth, the equality of the closing name, the size of an
@@ -23,7 +27,7 @@ module _ (m : Mode) (s : Strictness) where
     two-stars : ExpOp power
     one-caret : m .version-1 ≡ true → ExpOp caret
 
-  -- [exp_op integer]. None written means 1.
+  -- [exp_op integer], with an exponent from -99 to 99; none written means 1
   pub data Exponent : List Placed → Whole → Type 0 where
     unwritten : Exponent [] one
     written : {x : Fixed} {p q : Span} {w : Whole} → ExpOp x → Kept s (w .size ≤ 99) → Exponent (the x on p ∷ integer w on q ∷ []) w
@@ -49,12 +53,14 @@ module _ (m : Mode) (s : Strictness) where
 
   -- scalar_value ::= numeric_value | date_time_value | text_string_value | symbolic_value
   pub data Scalar : List Placed → List Row → Type 0 where
+    -- numeric_value ::= integer [units_expression] | based_integer [units_expression] | real [units_expression]
     integer-value : {w : Whole} {p : Span} {us : List Placed} {rs : List Row} →
         Units us rs → Scalar (integer w on p ∷ us) (an-integer w ∷ rs)
     based-value : {w : Whole} {p : Span} {us : List Placed} {rs : List Row} →
         Units us rs → Scalar (based w on p ∷ us) (an-integer w ∷ rs)
     real-value : {x : Real} {p : Span} {us : List Placed} {rs : List Row} →
         Units us rs → Scalar (real x on p ∷ us) (a-real x ∷ rs)
+    -- date_time_value ::= date | time | date_time; text_string_value ::= quoted_text; symbolic_value ::= identifier | quoted_symbol
     date-time-value : {t : Moment} {p : Span} → Scalar (moment t on p ∷ []) (a-moment t ∷ [])
     text-value : {p : Span} → Scalar (text on p ∷ []) (a-text p ∷ [])
     symbol-value : {p : Span} → Scalar (symbol on p ∷ []) (a-symbol p ∷ [])
@@ -82,6 +88,7 @@ module _ (m : Mode) (s : Strictness) where
     side-by-side : m .rows-beside ≡ true → Between []
     by-comma : {p : Span} → m .rows-comma ≡ true → Between (the comma on p ∷ [])
 
+  -- [sequence_1D]*
   pub data Rows : List Placed → List Row → Type 0 where
     no-row : Rows [] []
     and-row : {bs xs ys : List Placed} {rs qs : List Row} →
@@ -109,7 +116,7 @@ module _ (m : Mode) (s : Strictness) where
     range-value : {lo hi : Whole} {p : Span} → m .version-1 ≡ true →
         Value (range lo hi on p ∷ []) (sequence ∷ an-integer lo ∷ an-integer hi ∷ sequence-end ∷ [])
 
-  -- [= object_identifier], equal to the opening one
+  -- [= object_identifier]: a closing name is optional and must equal the opening one, case folded
   pub data Closing : Name → List Placed → Type 0 where
     unnamed : {n : Name} → Closing n []
     named : {n n′ : Name} {p q : Span} → Kept s (n′ ≡ n) → Closing n (the equals on p ∷ name n′ on q ∷ [])
@@ -139,13 +146,14 @@ module _ (m : Mode) (s : Strictness) where
       -- pointer_stmt ::= ^ object_identifier = value
       pointing : {d : ℕ} {n : Name} {p q q′ : Span} {xs es : List Placed} {rs : List Row} →
           Value xs rs → Semicolon es → Statement d (the caret on p ∷ name n on q ∷ the equals on q′ ∷ (xs ++ es)) (pointer q ∷ rs)
-      -- object_stmt ::= object = object_identifier [statement]* end_object [= object_identifier], and group_stmt alike
+      -- object_stmt ::= object = object_identifier [statement]* end_object [= object_identifier], and group_stmt alike.
+      -- OBJECT and GROUP together nest at most 80 deep.
       block : {d : ℕ} {k : Kind} {f : Fixed} {n : Name} {p q q′ : Span} (t : Span) {es xs cs es′ : List Placed} {rs : List Row} →
           Opening k f → Kept s (d < 80) → Semicolon es → Statements (suc d) xs rs → Closing n cs → Semicolon es′ →
           Statement d (the f on p ∷ the equals on q ∷ name n on q′ ∷ (es ++ (xs ++ (the (closer k) on t ∷ (cs ++ es′)))))
           (opened k q′ ∷ (rs ++ (closed k ∷ [])))
 
-  -- label ::= [statement]* end
+  -- label ::= [statement]* end. END stands at depth 0, and the byte after it is spacing, a line end or the input's end.
   pub data Label : List Placed → List Row → Type 0 where
     label : (b : Bool) (p : Span) {xs : List Placed} {rs : List Row} →
         Statements 0 xs rs → Kept s (b ≡ true) → Label (xs ++ (end b on p ∷ [])) (rs ++ (last (p .upto) ∷ []))

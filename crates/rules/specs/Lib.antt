@@ -1,7 +1,8 @@
--- The rules, in the order of document 01: bytes; elements, their words and what words stand for; statements and values; the table; what comes back
--- from a reading; proper tables, what they mean, and the label that is written.
+-- The rules, in the order of document 01: bytes; elements, their words and what words stand for; statements and values; the table; what
+-- comes back from a reading; proper tables, what they mean, and the label that is written; what is asked of a table. Then the modes, and
+-- examples. A mode of reading is called `m` throughout. Callers have one, `base`: there rows stand side by side, and a case that asks for
+-- another flag does not arise.
 pub mod Bytes
-pub mod Modes
 pub mod Data
 pub mod Values
 pub mod Words
@@ -15,4 +16,5 @@ pub mod Meaning
 pub mod Written
 pub mod Writing
 pub mod Asked
+pub mod Modes
 pub mod Examples

@@ -5,11 +5,12 @@ use mathlib.Core.Path.{_≡_}
 use mathlib.Core.Bool.{true}
 use mathlib.Core.List.{List, [], _∷_, _++_, map}
 use lib.ListN.{length, take, drop}
-use Rattle.rules.specs.Bytes.{between, Run}
-use Rattle.rules.specs.Data.{Span, Name, name, Placed, RowOf, Row, attribute, pointer, opened, closed, an-integer, a-real, a-moment, a-text, a-symbol, a-unit, sequence, sequence-end, set, set-end, last}
+use Rattle.rules.specs.Bytes.{Run}
+use Rattle.rules.specs.Data.{Span, Name, name, Placed, RowOf, Row, attribute, pointer, opened, closed, an-integer, a-real, a-moment}
+use Rattle.rules.specs.Data.{a-text, a-symbol, a-unit, sequence, sequence-end, set, set-end, last}
 use Rattle.rules.specs.Modes.{Mode, base}
 use Rattle.rules.specs.Words.{Form}
-use Rattle.rules.specs.Elements.{inText, inSymbol, Cut}
+use Rattle.rules.specs.Elements.{inText, inSymbol, symbolKept, Cut}
 use Rattle.rules.specs.Grammar.{strict, Label}
 use Rattle.rules.specs.Table.{encode, table}
 
@@ -17,7 +18,7 @@ use Rattle.rules.specs.Table.{encode, table}
 abbrev pub theRules : Mode
 theRules = base
 
--- ---- the element list of some label that follows the rules gives these rows, spans aside
+-- ---- rows that a label gives, spans aside
 
 -- a row, its span aside, and row 99's offset
 abbrev pub aside : {S L : Type 0} → RowOf S L → RowOf (Unit {0}) (Unit {0})
@@ -37,6 +38,7 @@ aside set = set
 aside set-end = set-end
 aside (last n) = last tt
 
+-- the element list of some label that follows the rules gives these rows, spans aside
 pub record Tabled (rows : List Row) : Type 0 where
   pub label : List ℕ
   pub elements : List Placed
@@ -47,7 +49,7 @@ pub record Tabled (rows : List Row) : Type 0 where
   pub follows : Label theRules strict elements given-rows
   pub alike : map aside given-rows ≡ map aside rows
 
--- ---- every span lies inside the given bytes and holds what its kind allows
+-- ---- what a span may hold
 
 -- the bytes of a span
 abbrev pub stretch : List ℕ → Span → List ℕ
@@ -63,14 +65,15 @@ TextBody w = Run inText w (byte "\"" ∷ [])
 
 -- symbols: 1 to 255 bytes from 32 to 126 other than `'`, reserved words too
 abbrev pub SymbolBody : List ℕ → Type 0
-SymbolBody w = Run inSymbol w (byte "'" ∷ []) × (between 1 255 (length w) ≡ true)
+SymbolBody w = Run inSymbol w (byte "'" ∷ []) × (symbolKept w ≡ true)
 
+-- the span lies inside the given bytes and holds what its kind allows
 pub record Held (Allowed : List ℕ → Type 0) (given : List ℕ) (p : Span) : Type 0 where
   pub ordered : p .from ≤ p .upto
   pub inside : p .upto ≤ length given
   pub content : Allowed (stretch given p)
 
--- row 99 may hold any offset from 0 to their length
+-- every span lies inside the given bytes and holds what its kind allows; row 99 may hold any offset from 0 to their length
 abbrev pub Holds : List ℕ → Row → Type 0
 Holds given (attribute p) = Held NameWord given p
 Holds given (pointer p) = Held NameWord given p
@@ -95,13 +98,10 @@ pub data Each {A : Type 0} (P : A → Type 0) : List A → Type 0 where
 
 -- ---- proper tables
 
+-- A table is proper over given label bytes if its rows are such, and every span is.
 pub record Proper (given : List ℕ) (rows : List Row) : Type 0 where
   pub tabled : Tabled rows
   pub spans : Each (Holds given) rows
-
--- of a table's bytes
-abbrev pub ProperBytes : List ℕ → List ℕ → Type 0
-ProperBytes given lent = (rows : List Row) × (lent ≡ table rows) × Proper given rows
 
 -- some proper table begins with these rows
 abbrev pub Begins : List ℕ → List Row → Type 0
@@ -120,6 +120,7 @@ pub record Improper (given lent : List ℕ) (at : ℕ) : Type 0 where
 
 -- ---- every table has one verdict
 
+-- what can be said of a table's bytes
 pub data Verdict : Type 0 where
   -- the table is proper, and these are its rows
   proper-rows : List Row → Verdict

@@ -1,28 +1,30 @@
 -- The forms of a word (12.3.1, 12.3.2, 12.3.4): each type below is a rule of the source's grammar, which stands above it.
 use Prim.Native.Nat.{ℕ}
 use Prim.Native.Char.{code as byte}
-use mathlib.Core.Bool.{Bool, true, false}
+use mathlib.Core.Bool.{Bool, true, false, not, _&&_, _||_}
 use mathlib.Core.Option.{none, some}
 use mathlib.Core.Path.{_≡_}
 use mathlib.Core.List.{List, [], _∷_, _++_, map}
-use lib.Dec.{leb}
+use lib.Dec.{leb, eqb}
 use lib.ListN.{length}
-use Rattle.rules.specs.Bytes.{between, digit, letter, alnum, fold, All}
+use Rattle.rules.specs.Bytes.{ascii, between, digit, letter, alnum, fold, All, front, pair, anywhere}
 use Rattle.rules.specs.Data.{Whole, Elem}
 use Rattle.rules.specs.Modes.{Mode}
-use Rattle.rules.specs.Values.{Date, in-year, in-month, Zone, utc, Second, Time, Written, an-identifier, a-whole, a-based, a-decimal, a-date, a-time, a-date-time, a-range, number, signed, value}
+use Rattle.rules.specs.Values.{Date, in-year, in-month, Zone, utc, Second, Time, Written, an-identifier, a-whole, a-based, a-decimal}
+use Rattle.rules.specs.Values.{a-date, a-time, a-date-time, a-range, number, signed, same, each, value}
 
 -- ---- identifiers
 
--- [letter | digit | _letter | _digit]*
-pub data More : List ℕ → Type 0 where
-  no-more : More []
-  plain : {b : ℕ} {s : List ℕ} → alnum b ≡ true → More s → More (b ∷ s)
-  under : {b : ℕ} {s : List ℕ} → alnum b ≡ true → More s → More (byte "_" ∷ b ∷ s)
+-- letter | digit | _
+abbrev pub nameByte : ℕ → Bool
+nameByte b = alnum b || eqb b (byte "_")
 
 -- identifier ::= letter [letter | digit | _letter | _digit]*
-pub data Identifier : List ℕ → Type 0 where
-  identifier : {b : ℕ} {s : List ℕ} → letter b ≡ true → More s → Identifier (b ∷ s)
+-- identifier (12.3.4): a letter, then letters and digits with single underscores between; no `__`, none last.
+abbrev pub isIdentifier : List ℕ → Bool
+isIdentifier w =
+    front letter w && (each nameByte w
+    && (not (anywhere (pair (byte "_") (byte "_")) w) && not (anywhere (λ s. same s (ascii "_")) w)))
 
 -- ---- numbers
 
@@ -32,7 +34,7 @@ pub data Sign : List ℕ → Bool → Type 0 where
   plus : Sign (byte "+" ∷ []) false
   minus : Sign (byte "-" ∷ []) true
 
--- digits, from so many to so many
+-- unsigned_integer, of so many digits at least and at most
 pub record Digits (least most : ℕ) (ds : List ℕ) : Type 0 where
   pub all : All digit ds
   pub count : between least most (length ds) ≡ true
@@ -87,19 +89,21 @@ pub data DateWord : List ℕ → Date → Type 0 where
 pub data Seconds : List ℕ → Second → Type 0 where
   no-second : Seconds [] (record { whole = 0; decimals = [] })
   second : {s : List ℕ} → Digits 1 2 s → Seconds (byte ":" ∷ s) (record { whole = number s; decimals = [] })
-  decimal : {s fs : List ℕ} → Digits 1 2 s → All digit fs → Seconds (byte ":" ∷ (s ++ byte "." ∷ fs)) (record { whole = number s; decimals = fs })
+  decimal : {s fs : List ℕ} → Digits 1 2 s → All digit fs →
+      Seconds (byte ":" ∷ (s ++ byte "." ∷ fs)) (record { whole = number s; decimals = fs })
 
--- zone_offset ::= sign hour [: minute]
+-- the sign of a zone_offset
 pub data ZoneMark : ℕ → Bool → Type 0 where
   east : ZoneMark (byte "+") false
   west : ZoneMark (byte "-") true
 
--- what ends a time: nothing (local_time), Z (utc_time), zone_offset (zoned_time)
+-- what ends a time: nothing (local_time), Z (utc_time), or a zone (zoned_time), with zone_offset ::= sign hour [: minute]
 pub data Zoned : List ℕ → Zone → Type 0 where
   local : Zoned [] utc
   utc-upper : Zoned (byte "Z" ∷ []) utc
   utc-lower : Zoned (byte "z" ∷ []) utc
-  by-hour : {b : ℕ} {h : List ℕ} {w : Bool} → ZoneMark b w → Digits 1 2 h → Zoned (b ∷ h) (record { west = w; hours = number h; minutes = 0 })
+  by-hour : {b : ℕ} {h : List ℕ} {w : Bool} → ZoneMark b w → Digits 1 2 h →
+      Zoned (b ∷ h) (record { west = w; hours = number h; minutes = 0 })
   by-minute : {b : ℕ} {h mi : List ℕ} {w : Bool} → ZoneMark b w → Digits 1 2 h → Digits 1 2 mi →
       Zoned (b ∷ (h ++ byte ":" ∷ mi)) (record { west = w; hours = number h; minutes = number mi })
 
@@ -115,8 +119,10 @@ pub data DateTime : List ℕ → Written → Type 0 where
 
 -- ---- all forms of a word
 
+-- A word has one form.
 pub data Shape (m : Mode) : List ℕ → Written → Type 0 where
-  identifier-word : {w : List ℕ} → Identifier w → Shape m w (an-identifier (map fold w))
+  -- identifier; integer, based integer; real; date; time; date, T or t, time; in version 1 a range
+  identifier-word : {w : List ℕ} → isIdentifier w ≡ true → Shape m w (an-identifier (map fold w))
   integer-word : {w : List ℕ} {n : Whole} → Integer w n → Shape m w (a-whole n)
   based-word : {w : List ℕ} {v : Written} → Based w v → Shape m w v
   real-word : {w : List ℕ} {v : Written} → Decimal w v → Shape m w v
@@ -125,14 +131,14 @@ pub data Shape (m : Mode) : List ℕ → Written → Type 0 where
   date-time-word : {w : List ℕ} {v : Written} → DateTime w v → Shape m w v
   range-word : {w : List ℕ} {v : Written} → m .version-1 ≡ true → Range w v → Shape m w v
 
--- the word w is the element e
+-- the word w is the element e: it has a form, and what that says is within its limit
 abbrev pub Form : Mode → Bool → List ℕ → Elem → Type 0
 Form m off w e = (v : Written) × Shape m w v × (value m off v ≡ some e)
 
--- the form is right, and past its limit
+-- 5: right form, past its limit
 abbrev pub Past : Mode → Bool → List ℕ → Type 0
 Past m off w = (v : Written) × Shape m w v × (value m off v ≡ none)
 
--- no form
+-- 4: a word of no form
 abbrev pub Formless : Mode → List ℕ → Type 0
 Formless m w = (v : Written) → Shape m w v → ⊥

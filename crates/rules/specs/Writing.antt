@@ -1,28 +1,32 @@
 -- What comes back from a writing: the label's bytes, or why not.
 use Prim.Native.Nat.{ℕ, _≤_, _<_}
-use mathlib.Core.List.{List, _++_}
-use lib.ListN.{length, drop}
+use mathlib.Core.List.{List}
+use lib.ListN.{length}
 use Rattle.rules.specs.Data.{Row}
-use Rattle.rules.specs.Reading.{Said}
+use Rattle.rules.specs.Reading.{longest, Said, says, filled}
 use Rattle.rules.specs.Proper.{proper-rows, improper-at, Ruled}
 use Rattle.rules.specs.Meaning.{meaning}
 use Rattle.rules.specs.Written.{canonical}
 
--- A writing gives code, place and written length likewise: 1, 12, 13, 11, in this order. Room beyond the reported length is untouched, and on refusal all of it.
+-- the label that a table writes
+abbrev pub labelOf : List ℕ → List Row → List ℕ
+labelOf label rows = canonical (meaning label rows)
+
+-- Writer: 1, 12, 13, 11. A writing gives code, place and written length. Room beyond the reported length is untouched, and on refusal all
+-- of it.
 pub data Writes (label lent room : List ℕ) : Said → List ℕ → Type 0 where
-  -- 1: label over 65,535 bytes
-  long-label : 65535 < length label → Writes label lent room (record { code = 1; place = 65535; size = 0 }) room
-  -- 12: table not proper
-  no-table : {at : ℕ} → length label ≤ 65535 → Ruled label lent (improper-at at) → Writes label lent room (record { code = 12; place = at; size = 0 }) room
-  -- 13: written label over 65,535 bytes
-  long-written : {rows : List Row} → length label ≤ 65535 → Ruled label lent (proper-rows rows) → 65535 < length (canonical (meaning label rows)) →
-      Writes label lent room (record { code = 13; place = 65535; size = 0 }) room
-  -- 11: room too short; place as for 0, the length is the one needed
-  short-room : {rows : List Row} → length label ≤ 65535 → Ruled label lent (proper-rows rows) → length (canonical (meaning label rows)) ≤ 65535 →
-      length room < length (canonical (meaning label rows)) →
-      Writes label lent room (record { code = 11; place = length (canonical (meaning label rows)); size = length (canonical (meaning label rows)) }) room
+  -- 1: label over 65,535 bytes; 65535
+  long-label : longest < length label → Writes label lent room (says 1 longest 0) room
+  -- 12: table not proper; first row that no proper table has there
+  no-table : {at : ℕ} → length label ≤ longest → Ruled label lent (improper-at at) → Writes label lent room (says 12 at 0) room
+  -- 13: written label over 65,535 bytes; 65535
+  long-written : {rows : List Row} → length label ≤ longest → Ruled label lent (proper-rows rows) → longest < length (labelOf label rows) →
+      Writes label lent room (says 13 longest 0) room
+  -- 11: room too short; as for 0; the length is the one needed
+  short-room : {rows : List Row} → length label ≤ longest → Ruled label lent (proper-rows rows) → length (labelOf label rows) ≤ longest →
+      length room < length (labelOf label rows) →
+      Writes label lent room (says 11 (length (labelOf label rows)) (length (labelOf label rows))) room
   -- 0: accepted; for the writer, written length
-  stored : {rows : List Row} → length label ≤ 65535 → Ruled label lent (proper-rows rows) → length (canonical (meaning label rows)) ≤ 65535 →
-      length (canonical (meaning label rows)) ≤ length room →
-      Writes label lent room (record { code = 0; place = length (canonical (meaning label rows)); size = length (canonical (meaning label rows)) })
-      (canonical (meaning label rows) ++ drop (length (canonical (meaning label rows))) room)
+  stored : {rows : List Row} → length label ≤ longest → Ruled label lent (proper-rows rows) → length (labelOf label rows) ≤ longest →
+      length (labelOf label rows) ≤ length room →
+      Writes label lent room (says 0 (length (labelOf label rows)) (length (labelOf label rows))) (filled (labelOf label rows) room)

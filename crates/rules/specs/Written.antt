@@ -1,19 +1,21 @@
 -- The written label, as a function of a meaning alone: what each row writes after the row before it.
 use Prim.Native.Nat.{ℕ, zero, suc, _+_, _/_, _%_, _^_}
 use Prim.Native.Char.{code as byte}
-use mathlib.Core.Bool.{Bool, true, false, cond, not, _&&_}
-use mathlib.Core.Option.{Option, none, some}
+use mathlib.Core.Bool.{Bool, cond, not, _&&_}
 use mathlib.Core.List.{List, [], _∷_, _++_, map}
 use lib.Dec.{leb, eqb}
 use lib.ListN.{length}
-use Rattle.rules.specs.Bytes.{ascii, letter, alnum, fold}
-use Rattle.rules.specs.Data.{Whole, Real, Moment, Elem, name, the, end, integer, based, real, moment, range, text, symbol, Kind, object, group, Op, first, times, divided, Opens, outside, inside, depth, attribute, pointer, opened, closed, an-integer, a-real, a-moment, a-text, a-symbol, a-unit, sequence, sequence-end, set, set-end, last}
-use Rattle.rules.specs.Values.{significant, named}
+use Rattle.rules.specs.Bytes.{ascii, fold}
+use Rattle.rules.specs.Data.{Whole, Real, Moment, Kind, object, group, Op, first, times, divided, Opens, outside, inside, depth}
+use Rattle.rules.specs.Data.{attribute, pointer, opened, closed, an-integer, a-real, a-moment, a-text, a-symbol, a-unit, sequence}
+use Rattle.rules.specs.Data.{sequence-end, set, set-end, last}
+use Rattle.rules.specs.Values.{significant, nameKept, unreserved}
+use Rattle.rules.specs.Words.{isIdentifier}
 use Rattle.rules.specs.Meaning.{Sense}
 
 -- ---- numbers, dates and times
 
--- exactly so many digits
+-- exactly so many digits: YYYY, MM, HH
 unfoldable pub wide : ℕ → ℕ → List ℕ
 wide zero n = []
 wide (suc k) n = (48 + n / 10 ^ k % 10) ∷ wide k n
@@ -53,9 +55,10 @@ zone w =
 -- HH:MM:SS, fraction, zone
 abbrev pub timeBytes : Moment → List ℕ
 timeBytes t =
-    wide 2 (t .hour) ++ (byte ":" ∷ (wide 2 (t .minute) ++ (byte ":" ∷ (wide 2 (t .second) ++ (fraction (significant (wide 9 (t .nanoseconds))) ++ zone (t .offset))))))
+    wide 2 (t .hour) ++ (byte ":" ∷ (wide 2 (t .minute) ++ (byte ":" ∷ (wide 2 (t .second)
+    ++ (fraction (significant (wide 9 (t .nanoseconds))) ++ zone (t .offset))))))
 
--- a date, a time, or both with T between
+-- Dates as YYYY-MM-DD, T, HH:MM:SS: a date, a time, or both with T between
 abbrev pub momentBytes : Moment → List ℕ
 momentBytes t =
     cond (eqb (t .parts) 1) (dateBytes t)
@@ -63,41 +66,9 @@ momentBytes t =
 
 -- ---- the test that a symbol stands bare by
 
--- a letter or digit; an underscore with none before it; where an underscore stands before
-abbrev pub nextMore : Bool → Bool → Bool → Bool → Bool → Bool
-nextMore true y u a b = a
-nextMore false true false a b = b
-nextMore false true true a b = false
-nextMore false false u a b = false
-
-abbrev pub more : Bool → List ℕ → Bool
-more u [] = not u
-more u (b ∷ s) = nextMore (alnum b) (eqb b (byte "_")) u (more false s) (more true s)
-
-abbrev pub isIdentifier : List ℕ → Bool
-isIdentifier [] = false
-isIdentifier (b ∷ s) = letter b && more false s
-
--- a word that `named` takes for a name: unreserved, and of at most 60 bytes
-abbrev pub aName : Elem → Bool
-aName (name n) = true
-aName (the f) = false
-aName (end b) = false
-aName (integer w) = false
-aName (based w) = false
-aName (real x) = false
-aName (moment t) = false
-aName (range lo hi) = false
-aName text = false
-aName symbol = false
-
-abbrev pub ofName : Option Elem → Bool
-ofName none = false
-ofName (some e) = aName e
-
 -- an unreserved identifier of at most 60 bytes
 unfoldable pub isName : List ℕ → Bool
-isName w = isIdentifier w && ofName (named false true (map fold w))
+isName w = isIdentifier w && (unreserved (map fold w) && nameKept w)
 
 -- ---- symbols and units
 
@@ -111,19 +82,22 @@ opSign first = ascii " <"
 opSign times = ascii "*"
 opSign divided = ascii "/"
 
--- exponent 1 unwritten.
+-- exponent 1 unwritten: the test
 abbrev pub isOne : Whole → Bool
 isOne w = not (w .minus) && eqb (w .size) 1
 
+-- `**-2`: a unit's exponent
 abbrev pub exponentBytes : Whole → List ℕ
 exponentBytes w = cond (isOne w) [] (ascii "**" ++ decimal w)
 
 -- ---- between one row and the next
 
--- what the row before is: none; a whole line; a name, before its value; a scalar; a unit; a bracket; the end of a sequence, which may be a row of another
+-- what the row before is: none; a whole line; a name, before its value; a scalar; a unit; a bracket; the end of a sequence, which may be a
+-- row of another
 pub data Prior : Type 0 where
   start line assigned member factor bracket row : Prior
 
+-- what each row is to the next
 abbrev pub prior : Sense → Prior
 prior (attribute n) = assigned
 prior (pointer n) = assigned
@@ -155,7 +129,8 @@ unitsEnd row = []
 abbrev pub betweenRows : List ℕ
 betweenRows = []
 
--- `NAME = value`, `(a, b)`, `{a, b}`: a space before a value, comma and space between members, nothing after a bracket. No value follows a whole line.
+-- `NAME = value`, `(a, b)`, `{a, b}`: a space before a value, comma and space between members, nothing after a bracket.
+-- No value follows a whole line.
 abbrev pub lead : Prior → List ℕ
 lead start = ascii " "
 lead line = ascii " "
@@ -180,16 +155,18 @@ unfoldable pub indent : ℕ → List ℕ
 indent zero = []
 indent (suc d) = 32 ∷ 32 ∷ indent d
 
+-- a new line at a depth, where a row has gone before
 abbrev pub newLine : Prior → ℕ → List ℕ
 newLine q d = lineBreak q ++ indent d
 
 -- ---- the blocks that are open
 
+-- the blocks around the innermost
 abbrev pub around : Opens → Opens
 around outside = outside
 around (inside k n o) = o
 
--- after a row
+-- the blocks that are open after a row
 abbrev pub after : Opens → Sense → Opens
 after o (attribute n) = o
 after o (pointer n) = o
@@ -207,15 +184,17 @@ after o set = o
 after o set-end = o
 after o (last n) = o
 
+-- `OBJECT = CAM`: the word of an opening line
 abbrev pub openWord : Kind → List ℕ
 openWord object = ascii "OBJECT"
 openWord group = ascii "GROUP"
 
+-- `END_OBJECT = CAM`: the word of a closing line
 abbrev pub closeWord : Kind → List ℕ
 closeWord object = ascii "END_OBJECT"
 closeWord group = ascii "END_GROUP"
 
--- a closing line stands at its opening line's depth and repeats the name.
+-- `END_OBJECT = CAM`: a closing line repeats the name
 abbrev pub repeats : Opens → List ℕ
 repeats outside = []
 repeats (inside k n o) = ascii " = " ++ n
@@ -227,13 +206,16 @@ abbrev pub writes : Prior → Opens → Sense → List ℕ
 -- `NAME = value`, `^NAME = value`
 writes q o (attribute n) = unitsEnd q ++ (newLine q (depth o) ++ (n ++ ascii " ="))
 writes q o (pointer n) = unitsEnd q ++ (newLine q (depth o) ++ (byte "^" ∷ (n ++ ascii " =")))
+-- a closing line stands at its opening line's depth and repeats the name.
 writes q o (opened k n) = unitsEnd q ++ (newLine q (depth o) ++ (openWord k ++ (ascii " = " ++ n)))
 writes q o (closed k) = unitsEnd q ++ (newLine q (depth (around o)) ++ (closeWord k ++ repeats o))
+-- `NAME = value`: numbers, dates and times
 writes q o (an-integer w) = unitsEnd q ++ (lead q ++ decimal w)
 writes q o (a-real x) = unitsEnd q ++ (lead q ++ realBytes x)
 writes q o (a-moment t) = unitsEnd q ++ (lead q ++ momentBytes t)
 -- Texts on one line.
 writes q o (a-text w) = unitsEnd q ++ (lead q ++ (byte "\"" ∷ (w ++ ascii "\"")))
+-- symbols and units
 writes q o (a-symbol w) = unitsEnd q ++ (lead q ++ symbolBytes w)
 writes q o (a-unit op n w) = opSign op ++ (n ++ exponentBytes w)
 -- `(a, b)`, `((a, b)(c))`, `{a, b}`, `{}`
@@ -244,14 +226,11 @@ writes q o set-end = unitsEnd q ++ ascii "}"
 -- Last `END`.
 writes q o (last n) = unitsEnd q ++ (newLine q (depth o) ++ ascii "END")
 
+-- what rows write, one after the other
 abbrev pub writesAll : Prior → Opens → List Sense → List ℕ
 writesAll q o [] = []
 writesAll q o (r ∷ rs) = writes q o r ++ writesAll (prior r) (after o r) rs
 
--- the label that these rows write; the line of END ends CR LF too
-abbrev pub written : List Sense → List ℕ
-written m = writesAll start outside m ++ (13 ∷ 10 ∷ [])
-
--- the canonical label of a meaning
+-- the canonical label of a meaning: what its rows write, and the line end behind END
 abbrev pub canonical : List Sense → List ℕ
-canonical m = written m
+canonical m = writesAll start outside m ++ (13 ∷ 10 ∷ [])

@@ -11,10 +11,10 @@ use Rattle.rules.specs.Data.{Elem, name, the, end, integer, based, real, moment
 use Rattle.rules.specs.Modes.{base}
 use Rattle.rules.specs.Values.{each}
 use Rattle.rules.specs.Words.{Form}
-use Rattle.rules.specs.Written.{aName, isName}
+use Rattle.rules.specs.Written.{isName}
 use Rattle.rules.proofs.Elements.Pieces.{Verdict, is, over, formless, Classified, classify, classified, form-once, past-once, formless-once}
 use Rattle.rules.proofs.Tables.Tests.{and-false}
-use Rattle.rules.proofs.Tables.Contents.{textByte, symbolByte, isText, isSymbol, name-word, form-name}
+use Rattle.rules.proofs.Tables.Contents.{aName, textByte, symbolByte, isText, isSymbol, name-word, form-name}
 use Rattle.rules.proofs.Tables.Checks.{spanTest}
 use Rattle.classes.proofs.Runs.{unroll}
 use Rattle.words.specs.Says.{said, Means}

@@ -1,12 +1,13 @@
 -- The next element, as a function.
-use Prim.Native.Nat.{ℕ, zero, suc, _+_, _≤_, _<_}
+use Prim.Native.Nat.{ℕ, zero, suc, _<_}
 use native.Mathlib.Omega.{arith}
-use mathlib.Core.Path.{_≡_, refl, sym, ap, subst, _∙_}
+use mathlib.Core.Bool.{true}
+use mathlib.Core.Path.{_≡_, refl, ap, _∙_}
 use mathlib.Core.List.{List, [], _∷_, _++_, append-assoc, append-nil}
 use lib.ListN.{length, length-append}
 use Rattle.rules.specs.Data.{Elem}
 use Rattle.rules.specs.Modes.{Mode}
-use Rattle.rules.specs.Elements.{begin, a-blank, Comment, comment, Gap, no-gap, blank, remark, Spells, word, sign, one-star, two-stars, one-slash, quoted-text, quoted-symbol, Fault}
+use Rattle.rules.specs.Elements.{isBlank, Comment, comment, Gap, no-gap, blank, remark, Spells, word, sign, one-star, two-stars, one-slash, quoted-text, quoted-symbol, Fault}
 use Rattle.rules.proofs.Elements.Pieces.{Piece, a-gap, an-element, a-fault, the-end, piece, PieceIs, is-blank, is-comment, is-element, is-fault, is-end, piece-sound, piece-complete}
 
 -- an element, the bytes that its span leaves out, the gap before it, its bytes, and what follows; a fault and the gap before it; neither
@@ -53,7 +54,7 @@ spells-some (quoted-text h) = omega arith
 spells-some (quoted-symbol h k) = omega arith
 
 module _ (m : Mode) where
-  after-blank : {b : ℕ} {r : List ℕ} {f : Found} → begin m b ≡ a-blank → NextIs m r f → NextIs m (b ∷ r) (behind (b ∷ []) f)
+  after-blank : {b : ℕ} {r : List ℕ} {f : Found} → isBlank b ≡ true → NextIs m r f → NextIs m (b ∷ r) (behind (b ∷ []) f)
   after-blank h (finds g s) = finds (blank h g) s
   after-blank h (faults g s) = faults (blank h g) s
   after-blank h (ends g) = ends (blank h g)

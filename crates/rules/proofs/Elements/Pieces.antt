@@ -1,22 +1,22 @@
 -- The piece at the front of the bytes: a blank, a comment, an element, a fault, or the end.
-use Prim.Native.Nat.{ℕ, suc, _+_, _≤_, _<_}
+use Prim.Native.Nat.{ℕ, suc}
 use native.Mathlib.Omega.{arith}
-use Prim.Native.Char.{code}
-use mathlib.Core.Bool.{Bool, true, false, cond, _&&_, false≢true, true≢false}
+use mathlib.Core.Bool.{Bool, true, false, cond, false≢true, true≢false}
 use mathlib.Core.Option.{Option, none, some}
 use mathlib.Core.Path.{_≡_, refl, sym, ap, subst, _∙_}
 use mathlib.Core.List.{List, [], _∷_, _++_, append-assoc}
-use borrow.Author.Tests.{eqb-true, le-leb}
-use lib.Dec.{leb, ltb, eqb}
+use borrow.Author.Tests.{le-leb}
+use lib.Dec.{leb, eqb}
 use lib.ListN.{length}
 use Rattle.rules.specs.Bytes.{between, lineEnd, wordByte, front, pair, Run, stops, goes-on}
-use Rattle.rules.specs.Data.{Span, Fixed, star, slash, power, Elem, the, text, symbol}
+use Rattle.rules.specs.Data.{star, slash, power, Elem, the, text, symbol}
 use Rattle.rules.specs.Modes.{Mode}
 use Rattle.rules.specs.Values.{Written, value}
 use Rattle.rules.specs.Words.{Shape, Form, Past, Formless}
-use Rattle.rules.specs.Elements.{Begin, a-word, a-blank, a-star, a-slash, a-quote, an-apostrophe, nothing, a-sign, Entry, _⇒_, look, signs, isBlank, orSemicolon, begin, inComment, inLine, Comment, comment, inText, inSymbol, inWord, setsOff, Spells, word, sign, one-star, two-stars, one-slash, quoted-text, quoted-symbol, Breaks, open-at-end, open-at, foreign, never, Fault, no-element, no-form, past-limit, broken-text, broken-symbol, broken-comment, empty-symbol, long-symbol}
+use Rattle.rules.specs.Elements.{isBlank, inComment, inLine, Comment, comment, inText, inSymbol, inWord, setsOff, Spells, word, sign, one-star, two-stars, one-slash, quoted-text, quoted-symbol, Breaks, open-at-end, open-at, foreign, never, Fault, no-element, no-form, past-limit, broken-text, broken-symbol, broken-comment, empty-symbol, long-symbol}
 use Rattle.rules.proofs.Words.Runs.{Split, span, run-span, Spanned, spanned, span-is, tail, front-is, both, pair-is}
 use Rattle.rules.proofs.Words.Shapes.{shape, shape-sound, shape-complete}
+use Rattle.rules.proofs.Elements.Begin.{Begin, a-word, a-blank, a-star, a-slash, a-quote, an-apostrophe, nothing, a-sign, begin, Starts, starts, blank-begins, sign-begins, nothing-begins}
 
 -- ---- a word: its element, past its limit, or of no form
 
@@ -66,38 +66,6 @@ formless-once {m} off {w} n = go (shape m w) refl
     go : (x : Option Written) → shape m w ≡ x → shaped m off (shape m w) ≡ formless
     go none e = ap (shaped m off) e
     go (some v) e = absurd (n v (shape-sound m w v e))
-
--- ---- what a byte begins tells the byte
-
-abbrev Starts : Begin → ℕ → Type 0
-Starts a-word b = wordByte b ≡ true
-Starts a-blank b = Unit {0}
-Starts a-star b = b ≡ 42
-Starts a-slash b = b ≡ 47
-Starts a-quote b = b ≡ 34
-Starts an-apostrophe b = b ≡ 39
-Starts nothing b = Unit {0}
-Starts (a-sign f) b = Unit {0}
-
-cond-case : (b : ℕ) (t : Bool) (x y : Begin) → (t ≡ true → Starts x b) → Starts y b → Starts (cond t x y) b
-cond-case b true x y f g = f refl
-cond-case b false x y f g = g
-
-abbrev Right : List Entry → Type 0
-Right [] = Unit {0}
-Right (a ⇒ x ∷ l) = Starts x (code a) × Right l
-
-look-starts : (l : List Entry) (b : ℕ) → Right l → Starts (look l b) b
-look-starts [] b h = tt
-look-starts (a ⇒ x ∷ l) b h =
-    cond-case b (eqb b (code a)) x (look l b) (λ e. subst (Starts x) (sym (eqb-true b (code a) e)) (h .0)) (look-starts l b (h .1))
-
-starts : (m : Mode) (b : ℕ) → Starts (begin m b) b
-starts m b =
-    cond-case b (wordByte b) _ _ (λ h. h)
-    (cond-case b (isBlank b) _ _ (λ h. tt)
-    (cond-case b (eqb b 59 && m .pvl) _ _ (λ h. tt)
-    (look-starts signs b (tt, (tt, (refl, (refl, (tt, (tt, (tt, (tt, (tt, (tt, (tt, (refl, (refl, tt))))))))))))))))
 
 -- ---- the piece
 
@@ -163,7 +131,7 @@ piece m (b ∷ l) = pieceOf m (begin m b) b l
 -- ---- the same in the rules' terms
 
 pub data PieceIs (m : Mode) : List ℕ → Piece → Type 0 where
-  is-blank : {b : ℕ} {r : List ℕ} → begin m b ≡ a-blank → PieceIs m (b ∷ r) (a-gap (b ∷ []) r)
+  is-blank : {b : ℕ} {r : List ℕ} → isBlank b ≡ true → PieceIs m (b ∷ r) (a-gap (b ∷ []) r)
   is-comment : {c r : List ℕ} → Comment c r → PieceIs m (c ++ r) (a-gap c r)
   is-element : {w r : List ℕ} {e : Elem} {q : ℕ} → Spells m w e q r → PieceIs m (w ++ r) (an-element e q w r)
   is-fault : {l : List ℕ} {c : ℕ} → Fault m l c → PieceIs m l (a-fault c)
@@ -275,19 +243,19 @@ module _ (m : Mode) where
       go true h = opened l (tail l) (front-is 42 l h)
       go false h = is-element (one-slash h)
 
-  piece-of-sound : (b : ℕ) (l : List ℕ) (x : Begin) → begin m b ≡ x → Starts x b → PieceIs m (b ∷ l) (pieceOf m x b l)
-  piece-of-sound b l a-word e h = word-sound h (span-is inWord refl (b ∷ l))
-  piece-of-sound b l a-blank e h = is-blank e
-  piece-of-sound b l a-star e h = rw h (star-sound l)
-  piece-of-sound b l a-slash e h = rw h (slash-sound l)
-  piece-of-sound b l a-quote e h = rw h (text-sound (span-is inText refl l))
-  piece-of-sound b l an-apostrophe e h = rw h (symbol-sound (span-is inSymbol refl l))
-  piece-of-sound b l nothing e h = is-fault (no-element e)
-  piece-of-sound b l (a-sign f) e h = is-element (sign e)
+  piece-of-sound : (b : ℕ) (l : List ℕ) (x : Begin) → Starts m x b → PieceIs m (b ∷ l) (pieceOf m x b l)
+  piece-of-sound b l a-word h = word-sound h (span-is inWord refl (b ∷ l))
+  piece-of-sound b l a-blank h = is-blank h
+  piece-of-sound b l a-star h = rw h (star-sound l)
+  piece-of-sound b l a-slash h = rw h (slash-sound l)
+  piece-of-sound b l a-quote h = rw h (text-sound (span-is inText refl l))
+  piece-of-sound b l an-apostrophe h = rw h (symbol-sound (span-is inSymbol refl l))
+  piece-of-sound b l nothing h = is-fault (no-element (h .0) (h .1) (h .2) (h .3))
+  piece-of-sound b l (a-sign f) h = is-element (sign h)
 
   pub piece-sound : (l : List ℕ) → PieceIs m l (piece m l)
   piece-sound [] = is-end
-  piece-sound (b ∷ l) = piece-of-sound b l (begin m b) refl (starts m b)
+  piece-sound (b ∷ l) = piece-of-sound b l (begin m b) (starts m b)
 
   -- ---- complete
 
@@ -304,7 +272,7 @@ module _ (m : Mode) where
 
   element-complete : {w r : List ℕ} {e : Elem} {q : ℕ} → Spells m w e q r → piece m (w ++ r) ≡ an-element e q w r
   element-complete (word {b} {w} {r} t f) = word-complete t ∙ ap (λ (v : Verdict). judged v (b ∷ w) r) (form-once f)
-  element-complete (sign {b} {r = r} h) = ap (λ (x : Begin). pieceOf m x b r) h
+  element-complete (sign {b} {r = r} h) = ap (λ (x : Begin). pieceOf m x b r) (sign-begins m b h)
   element-complete (one-star h) = rw h
   element-complete two-stars = refl
   element-complete (one-slash h) = rw h
@@ -315,7 +283,7 @@ module _ (m : Mode) where
   comment-complete (comment {c} {i} {r} t u) = simp append-assoc (ap commentPiece (run-span t) ∙ ap (ignored c) (run-span u))
 
   fault-complete : {l : List ℕ} {c : ℕ} → Fault m l c → piece m l ≡ a-fault c
-  fault-complete (no-element {b} {r} h) = ap (λ (x : Begin). pieceOf m x b r) h
+  fault-complete (no-element {b} {r} f g h k) = ap (λ (x : Begin). pieceOf m x b r) (nothing-begins m b (f, g, h, k))
   fault-complete (no-form {b} {w} {r} t f) = word-complete t ∙ ap (λ (v : Verdict). judged v (b ∷ w) r) (formless-once (setsOff m r) f)
   fault-complete (past-limit {b} {w} {r} t f) = word-complete t ∙ ap (λ (v : Verdict). judged v (b ∷ w) r) (past-once f)
   fault-complete (broken-text {t} {r} u h k) = ap textPiece (run-span u) ∙ rw h (ap a-fault (broken-is k))
@@ -325,7 +293,7 @@ module _ (m : Mode) where
   fault-complete (long-symbol {t} {r} u h) = ap symbolPiece (run-span u) ∙ sized-long t r h
 
   pub piece-complete : {l : List ℕ} {p : Piece} → PieceIs m l p → piece m l ≡ p
-  piece-complete (is-blank {b} {r} h) = ap (λ (x : Begin). pieceOf m x b r) h
+  piece-complete (is-blank {b} {r} h) = ap (λ (x : Begin). pieceOf m x b r) (blank-begins m b h)
   piece-complete (is-comment c) = comment-complete c
   piece-complete (is-element s) = element-complete s
   piece-complete (is-fault f) = fault-complete f

@@ -1,14 +1,14 @@
 -- The machine on small lists of elements: the checked examples that statements decide, by computation.
-use Prim.Native.Nat.{ℕ, zero, suc, _≤_, _<_}
+use Prim.Native.Nat.{ℕ, zero, suc}
 use native.Mathlib.Decide.{decLe, decLt, ℕ-discrete}
-use mathlib.Core.Path.{_≡_, refl, sym, ap, ap₂, _∙_, subst, subst₂}
-use mathlib.Core.Bool.{Bool, true, false, Bool-discrete}
-use mathlib.Core.List.{List, [], _∷_, _++_, append-assoc, append-nil}
-use Rattle.rules.specs.Data.{Span, Whole, one, Real, Moment, Name, Fixed, Fixed-discrete, OBJECT, END-OBJECT, GROUP, END-GROUP, BEGIN-OBJECT, BEGIN-GROUP, equals, comma, star, slash, caret, less, greater, lpar, rpar, lbrace, rbrace, power, semicolon, Elem, name, the, end, integer, based, real, moment, range, text, symbol, Placed, _on_, Kind, object, group, opener, beginner, closer, Op, first, times, divided, Row, attribute, pointer, opened, closed, an-integer, a-real, a-moment, a-text, a-symbol, a-unit, sequence, sequence-end, set, set-end, last, Opens, outside, inside, depth}
-use Rattle.rules.specs.Grammar.{Strictness, strict, relaxed}
-use Rattle.rules.specs.Modes.{Mode, base, mended, PVL, ODL-1}
-use Rattle.rules.proofs.Grammar.Machine.{Group, in-sequence, in-row, in-set, Place, alone, within, Else, no-else, any-value, a-row, a-set-end, State, at-statement, at-semicolon, at-equals, at-pointer, at-opener, at-opened, at-closer, at-closed, at-scalar, at-number, at-member, at-row, at-next-row, at-unit, at-power, at-exponent, at-factor, at-end, Next, never, go, past, Answer, refuses, goes, judge, Entry, _⇒_, Offer, decided, find, dispatch, limit, only, a-name, a-whole, a-statement, also, after, a-scalar, when, name-discrete, same-name, else, else-range, factors, powers, list-end, member, members, rows, opens, openings, statements, after-statement, follows, offers, step}
-use Rattle.rules.proofs.Grammar.Run.{Reach, here, by-step, Accepts, Outcome, ended, refused, prepend, carry, run, reading, reach-run, Trace, all-taken, some-refused, trace}
+use mathlib.Core.Path.{_≡_, refl}
+use mathlib.Core.Bool.{true, false}
+use mathlib.Core.List.{List, [], _∷_}
+use Rattle.rules.specs.Data.{Span, one, OBJECT, END-OBJECT, END-GROUP, BEGIN-GROUP, equals, comma, less, lpar, rpar, lbrace, rbrace, power, semicolon, name, the, end, integer, range, Placed, _on_, group, attribute, opened, closed, an-integer, sequence, sequence-end, set, set-end, last, outside}
+use Rattle.rules.specs.Grammar.{strict}
+use Rattle.rules.specs.Modes.{base, mended, PVL, ODL-1}
+use Rattle.rules.proofs.Grammar.Machine.{at-end, name-discrete}
+use Rattle.rules.proofs.Grammar.Run.{Outcome, ended, refused, reading}
 
 at : ℕ → Span
 at n = record { from = n; upto = n }

@@ -1,11 +1,9 @@
 -- What holds of every answer of an offer, element by element: one lemma for each kind of offer.
-use Prim.Native.Nat.{ℕ, zero, suc, _≤_, _<_}
-use native.Mathlib.Decide.{decLe, decLt}
-use mathlib.Core.Path.{_≡_, refl, sym, ap, ap₂, _∙_, subst, subst₂}
-use mathlib.Core.Bool.{Bool, true, false, Bool-discrete}
-use mathlib.Core.List.{List, [], _∷_, _++_, append-assoc, append-nil}
-use Rattle.rules.specs.Data.{Span, Whole, one, Real, Moment, Name, Fixed, Fixed-discrete, OBJECT, END-OBJECT, GROUP, END-GROUP, BEGIN-OBJECT, BEGIN-GROUP, equals, comma, star, slash, caret, less, greater, lpar, rpar, lbrace, rbrace, power, semicolon, Elem, name, the, end, integer, based, real, moment, range, text, symbol, Placed, _on_, Kind, object, group, opener, beginner, closer, Op, first, times, divided, Row, attribute, pointer, opened, closed, an-integer, a-real, a-moment, a-text, a-symbol, a-unit, sequence, sequence-end, set, set-end, last, Opens, outside, inside, depth}
-use Rattle.rules.proofs.Grammar.Machine.{Group, in-sequence, in-row, in-set, Place, alone, within, Else, no-else, any-value, a-row, a-set-end, State, at-statement, at-semicolon, at-equals, at-pointer, at-opener, at-opened, at-closer, at-closed, at-scalar, at-number, at-member, at-row, at-next-row, at-unit, at-power, at-exponent, at-factor, at-end, Next, never, go, past, Answer, refuses, goes, judge, Entry, _⇒_, Offer, decided, find, dispatch, limit, only, a-name, a-whole, a-statement, also, after, a-scalar, when, name-discrete, else, else-range, factors, powers, list-end, member, members, rows, opens, openings, statements, after-statement, follows, offers, step}
+use mathlib.Core.Path.{_≡_, refl, subst}
+use mathlib.Core.Bool.{Bool, true, false}
+use mathlib.Core.List.{List, [], _∷_}
+use Rattle.rules.specs.Data.{Span, Whole, Real, Moment, Name, Fixed, Fixed-discrete, name, the, end, integer, based, real, moment, range, text, symbol, Placed, _on_, an-integer, a-real, a-moment, a-text, a-symbol, Opens}
+use Rattle.rules.proofs.Grammar.Machine.{Place, at-number, Next, never, go, Entry, _⇒_, Offer, decided, find, dispatch, only, a-name, a-whole, a-statement, also, after, a-scalar, when}
 
 pub decided-case : {P : Type 0} (d : Dec P) (a b : Next) (G : Next → Type 0) → (P → G a) → G b → G (decided d a b)
 decided-case (yes h) a b G f g = f h

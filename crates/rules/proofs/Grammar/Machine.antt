@@ -1,11 +1,11 @@
 -- The machine: a state, the offers that a state makes, and the step over one element.
-use Prim.Native.Nat.{ℕ, zero, suc, _≤_, _<_}
+use Prim.Native.Nat.{ℕ}
 use native.Mathlib.Decide.{decLe, decLt, ℕ-discrete}
 use native.Mathlib.Omega.{arith}
 use mathlib.Core.Path.{_≡_, refl, sym}
 use mathlib.Core.Bool.{Bool, true, false, Bool-discrete}
-use mathlib.Core.List.{List, [], _∷_, _++_}
-use Rattle.rules.specs.Data.{Span, Whole, one, Real, Moment, Name, Fixed, Fixed-discrete, OBJECT, END-OBJECT, GROUP, END-GROUP, BEGIN-OBJECT, BEGIN-GROUP, equals, comma, star, slash, caret, less, greater, lpar, rpar, lbrace, rbrace, power, semicolon, Elem, name, the, end, integer, based, real, moment, range, text, symbol, Placed, _on_, Kind, object, group, opener, beginner, closer, Op, first, times, divided, Row, attribute, pointer, opened, closed, an-integer, a-real, a-moment, a-text, a-symbol, a-unit, sequence, sequence-end, set, set-end, last, Opens, outside, inside, depth}
+use mathlib.Core.List.{List, [], _∷_}
+use Rattle.rules.specs.Data.{Span, Whole, one, Name, Fixed, Fixed-discrete, OBJECT, GROUP, BEGIN-OBJECT, BEGIN-GROUP, equals, comma, star, slash, caret, less, greater, lpar, rpar, lbrace, rbrace, power, semicolon, name, the, end, integer, based, real, moment, range, text, symbol, Placed, _on_, Kind, object, group, closer, Op, first, times, divided, Row, attribute, pointer, opened, closed, an-integer, a-real, a-moment, a-text, a-symbol, a-unit, sequence, sequence-end, set, set-end, last, Opens, outside, inside, depth}
 use Rattle.rules.specs.Grammar.{Strictness, strict, relaxed}
 use Rattle.rules.specs.Modes.{Mode}
 

@@ -1,11 +1,10 @@
 -- A mode that allows more takes every label that another takes, with the same rows.
-use Prim.Native.Nat.{ℕ, zero, suc, _≤_, _<_}
-use native.Mathlib.Decide.{decLe, decLt}
-use mathlib.Core.Path.{_≡_, refl, sym, ap, ap₂, _∙_, subst, subst₂}
-use mathlib.Core.Bool.{Bool, true, false, Bool-discrete}
-use mathlib.Core.List.{List, [], _∷_, _++_, append-assoc, append-nil}
-use Rattle.rules.specs.Data.{Span, Whole, one, Real, Moment, Name, Fixed, Fixed-discrete, OBJECT, END-OBJECT, GROUP, END-GROUP, BEGIN-OBJECT, BEGIN-GROUP, equals, comma, star, slash, caret, less, greater, lpar, rpar, lbrace, rbrace, power, semicolon, Elem, name, the, end, integer, based, real, moment, range, text, symbol, Placed, _on_, Kind, object, group, opener, beginner, closer, Op, first, times, divided, Row, attribute, pointer, opened, closed, an-integer, a-real, a-moment, a-text, a-symbol, a-unit, sequence, sequence-end, set, set-end, last}
-use Rattle.rules.specs.Grammar.{Strictness, strict, relaxed, Kept, ExpOp, two-stars, one-caret, Exponent, unwritten, written, Factor, factor, Factors, no-factor, by-times, by-divided, Units, no-units, units, Scalar, integer-value, based-value, real-value, date-time-value, text-value, symbol-value, identifier-value, Apart, comma-apart, beside, Scalars, no-scalar, and-scalar, Sequence1, sequence-1D, Between, side-by-side, by-comma, Rows, no-row, and-row, Sequence, one-dimension, sequence-2D, Set, set-of, empty-set, Value, scalar-value, sequence-value, set-value, range-value, Closing, unnamed, named, Semicolon, no-semicolon, a-semicolon, Opening, by-word, by-begin, Statements, no-statement, and-statement, Statement, assignment, pointing, block, Label, label}
+use Prim.Native.Nat.{ℕ}
+use mathlib.Core.Path.{_≡_}
+use mathlib.Core.Bool.{true}
+use mathlib.Core.List.{List}
+use Rattle.rules.specs.Data.{Whole, Name, Fixed, Placed, Kind, Op, Row}
+use Rattle.rules.specs.Grammar.{Strictness, two-stars, one-caret, Exponent, unwritten, written, Factor, factor, Factors, no-factor, by-times, by-divided, Units, no-units, units, Scalar, integer-value, based-value, real-value, date-time-value, text-value, symbol-value, identifier-value, Apart, comma-apart, beside, Scalars, no-scalar, and-scalar, Sequence1, sequence-1D, Between, side-by-side, by-comma, Rows, no-row, and-row, one-dimension, sequence-2D, set-of, empty-set, Value, scalar-value, sequence-value, set-value, range-value, Closing, unnamed, named, Semicolon, no-semicolon, a-semicolon, Opening, by-word, by-begin, Statements, no-statement, and-statement, Statement, assignment, pointing, block, Label, label}
 use Rattle.rules.specs.Modes.{Mode}
 
 -- `m′` allows all that `m` allows

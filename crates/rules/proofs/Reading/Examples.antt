@@ -6,7 +6,7 @@ use Rattle.rules.specs.Bytes.{ascii}
 use Rattle.rules.specs.Modes.{base}
 use Rattle.rules.specs.Reading.{Reads}
 use Rattle.rules.specs.Examples.{Example, examples, Hold}
-use Rattle.rules.proofs.Grammar.Machine.{name-discrete, same-name}
+use Rattle.rules.proofs.Grammar.Machine.{name-discrete}
 use Rattle.rules.proofs.Reading.Reader.{reader, reads-sound}
 
 -- the reading gives the results

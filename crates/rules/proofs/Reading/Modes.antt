@@ -1,23 +1,23 @@
 -- A label that a mode accepts, a mode that allows more accepts too, with the same table, if no bare BEGIN_GROUP stands in it
 -- where only the other reserves that.
-use Prim.Native.Nat.{ℕ, zero, suc, _+_, _≤_, _<_}
+use Prim.Native.Nat.{ℕ}
 use native.Mathlib.Omega.{arith}
-use mathlib.Core.Bool.{Bool, true, false, cond, not, _&&_, _||_, false≢true, true≢false}
+use mathlib.Core.Bool.{Bool, true, false, cond, _&&_, _||_, false≢true}
 use mathlib.Core.Option.{Option, none, some}
 use mathlib.Core.Path.{_≡_, refl, sym, ap, subst, _∙_}
-use mathlib.Core.List.{List, [], _∷_, _++_}
+use mathlib.Core.List.{List, [], _∷_}
 use borrow.Author.Tests.{eqb-true}
 use lib.Dec.{leb, eqb}
 use lib.ListN.{length}
-use Rattle.rules.specs.Bytes.{ascii, wordByte}
-use Rattle.rules.specs.Data.{Span, Name, Elem, name, the, end, integer, based, real, moment, range, text, symbol, Placed, _on_, Row, OBJECT, END-OBJECT, GROUP, END-GROUP, BEGIN-OBJECT, BEGIN-GROUP, Opens, outside, inside}
+use Rattle.rules.specs.Bytes.{ascii}
+use Rattle.rules.specs.Data.{Span, Fixed, semicolon, Name, Elem, name, the, end, integer, based, real, moment, range, text, symbol, Placed, _on_, Row, BEGIN-GROUP, Opens, outside, inside}
 use Rattle.rules.specs.Grammar.{strict, Label}
 use Rattle.rules.specs.Modes.{Mode}
 use Rattle.rules.specs.Values.{Written, an-identifier, a-whole, a-based, a-decimal, a-date, a-time, a-date-time, a-range, value, named, same, within}
-use Rattle.rules.specs.Words.{Shape, identifier-word, integer-word, based-word, real-word, date-word, time-word, date-time-word, range-word, Form}
-use Rattle.rules.specs.Elements.{Begin, a-blank, a-sign, nothing, look, signs, isBlank, begin, setsOff, Gap, no-gap, blank, remark, Spells, word, sign, one-star, two-stars, one-slash, quoted-text, quoted-symbol, Cut, none-more, next}
+use Rattle.rules.specs.Words.{Shape, identifier-word, integer-word, based-word, real-word, date-word, time-word, date-time-word, range-word}
+use Rattle.rules.specs.Elements.{look, signs, signOf, isBlank, setsOff, Gap, no-gap, blank, remark, Spells, word, sign, one-star, two-stars, one-slash, quoted-text, quoted-symbol, Cut, none-more, next}
 use Rattle.rules.specs.Reading.{accepted, Judged, follows}
-use Rattle.rules.proofs.Grammar.Machine.{Group, Place, alone, within as member-of, State, at-statement, at-semicolon, at-equals, at-pointer, at-opener, at-opened, at-closer, at-closed, at-scalar, at-number, at-member, at-row, at-next-row, at-unit, at-power, at-exponent, at-factor, at-end, Answer, refuses, goes, judge, statements, after-statement, members, follows as offered, offers, step}
+use Rattle.rules.proofs.Grammar.Machine.{Group, Place, alone, within as member-of, State, at-statement, at-semicolon, at-equals, at-pointer, at-opener, at-opened, at-closer, at-closed, at-scalar, at-number, at-member, at-row, at-next-row, at-unit, at-power, at-exponent, at-factor, at-end, Answer, refuses, goes, judge, statements, after-statement, members, follows as offered, step}
 use Rattle.rules.proofs.Grammar.Run.{Reach, here, by-step}
 use Rattle.rules.proofs.Grammar.Complete.{refuses-goes, complete}
 use Rattle.rules.proofs.Grammar.Wider.{Allows, label-too}
@@ -117,7 +117,7 @@ same-is (a ∷ s) (b ∷ t) h = go (same-is s t) (eqb a b) refl h
 some-is : {e e′ : Elem} → _≡_ {A = Option Elem} (some e) (some e′) → e ≡ e′
 some-is h = cc
 
-none-some : {e : Elem} → _≡_ {A = Option Elem} none (some e) → ⊥
+none-some : {A : Type 0} {e : A} → _≡_ {A = Option A} none (some e) → ⊥
 none-some {e} h = let z : _≡_ {A = ℕ} 0 1 = cc in omega arith
 
 otherwise : (e : Elem) (t : Bool) (x y y′ : Option Elem) → (y ≡ some e → y′ ≡ some e) → cond t x y ≡ some e → cond t x y′ ≡ some e
@@ -177,17 +177,14 @@ module _ (m m′ : Mode) (w : Allows m m′) where
   shape-too (date-time-word x) = date-time-word x
   shape-too (range-word h x) = range-word (w .version-1 h) x
 
-  begin-too : (b : ℕ) (x : Begin) → begin m b ≡ x → (x ≡ nothing → ⊥) → begin m′ b ≡ x
-  begin-too b x h f = go (wordByte b) (isBlank b) (eqb b 59) refl (m .pvl) refl h
+  sign-too : (b : ℕ) {f : Fixed} → signOf m b ≡ some f → signOf m′ b ≡ some f
+  sign-too b {f} h = go (eqb b 59) refl (m .pvl) refl h
     where
-      go : (t u v : Bool) → eqb b 59 ≡ v → (p : Bool) → m .pvl ≡ p →
-          cond t Begin.a-word (cond u a-blank (cond (v && p) (a-sign Rattle.rules.specs.Data.semicolon) (look signs b))) ≡ x →
-          cond t Begin.a-word (cond u a-blank (cond (v && m′ .pvl) (a-sign Rattle.rules.specs.Data.semicolon) (look signs b))) ≡ x
-      go true u v k p i h = h
-      go false true v k p i h = h
-      go false false true k true i h = rw (w .pvl i) h
-      go false false true k false i h = absurd (f (sym h ∙ rw (eqb-true b 59 k)))
-      go false false false k p i h = h
+      go : (t : Bool) → eqb b 59 ≡ t → (p : Bool) → m .pvl ≡ p →
+          cond (t && p) (some semicolon) (look signs b) ≡ some f → cond (t && m′ .pvl) (some semicolon) (look signs b) ≡ some f
+      go true k true i h = rw (w .pvl i) h
+      go true k false i h = absurd (none-some (ap (look signs) (sym (eqb-true b 59 k)) ∙ h))
+      go false k p i h = h
 
   off-too : (r : List ℕ) → setsOff m r ≡ true → setsOff m′ r ≡ true
   off-too [] h = refl
@@ -201,13 +198,13 @@ module _ (m m′ : Mode) (w : Allows m m′) where
 
   gap-too : {g r : List ℕ} → Gap m g r → Gap m′ g r
   gap-too no-gap = no-gap
-  gap-too (blank {b} h t) = blank (begin-too b a-blank h (λ e. let z : _≡_ {A = ℕ} 0 1 = cc in omega arith)) (gap-too t)
+  gap-too (blank {b} h t) = blank h (gap-too t)
   gap-too (remark c t) = remark c (gap-too t)
 
   spells-too : {x r : List ℕ} {e : Elem} {q : ℕ} → Spells m x e q r → Settled e → NoBeginGroup e → Spells m′ x e q r
   spells-too (word {r = r} {e = e} t f) s b =
       word t (f .0, shape-too (f .1), value-too (setsOff m r) (setsOff m′ r) (f .0) e (off-too r) s b (f .2))
-  spells-too (sign {b} {f} h) s n = sign (begin-too b (a-sign f) h (λ e. let z : _≡_ {A = ℕ} 0 1 = cc in omega arith))
+  spells-too (sign {b} {f} h) s n = sign (sign-too b h)
   spells-too (one-star h) s b = one-star h
   spells-too two-stars s b = two-stars
   spells-too (one-slash h) s b = one-slash h

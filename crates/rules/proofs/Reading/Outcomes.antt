@@ -1,10 +1,9 @@
 -- For every list of bytes exactly one outcome; a label follows the rules in exactly one way; and every outcome can be given in the numbers of the paper.
-use Prim.Native.Nat.{ℕ, _+_, _≤_, _<_}
+use Prim.Native.Nat.{ℕ, _+_, _≤_}
 use native.Mathlib.Omega.{arith}
-use native.Mathlib.Nat.{zero-add}
 use mathlib.Core.Bool.{Bool}
 use mathlib.Core.Path.{_≡_, refl, sym, ap, subst, _∙_}
-use mathlib.Core.List.{List, [], _∷_, _++_}
+use mathlib.Core.List.{List, _∷_, _++_}
 use lib.ListN.{length, length-append}
 use Rattle.rules.specs.Data.{Elem, Placed, Row, Opens, outside}
 use Rattle.rules.specs.Modes.{Mode}
@@ -13,8 +12,8 @@ use Rattle.rules.specs.Faults.{PastLimit, exponent-past, name-differs, t
 use Rattle.rules.specs.Elements.{Gap, Spells, placed, Cut, none-more, next, Breaks, open-at-end, open-at, foreign, Fault, no-element, no-form, broken-text, broken-symbol, broken-comment, empty-symbol, long-symbol}
 use Rattle.rules.specs.Elements as Elements
 use Rattle.rules.specs.Reading.{Outcome, accepted, refused, Judged, follows, misspelled, misplaced, ends-early}
-use Rattle.rules.proofs.Elements.Next.{Found, found, nextElement, finds, next-complete}
-use Rattle.rules.proofs.Grammar.Machine.{State, at-statement, at-end, refuses, goes, step}
+use Rattle.rules.proofs.Elements.Next.{found, nextElement, finds, next-complete}
+use Rattle.rules.proofs.Grammar.Machine.{State, at-end, goes, step}
 use Rattle.rules.proofs.Grammar.Run.{Reach, here, by-step}
 use Rattle.rules.proofs.Grammar.Complete.{refuses-goes, complete}
 use Rattle.rules.proofs.Grammar.Theorems.{unique}
@@ -79,7 +78,7 @@ module _ (m : Mode) where
   break-code (foreign h) = omega arith
 
   fault-code : {r : List ℕ} {c : ℕ} → Fault m r c → Within 2 10 c
-  fault-code (no-element h) = omega arith
+  fault-code (no-element f g h k) = omega arith
   fault-code (no-form t f) = omega arith
   fault-code (Elements.past-limit t f) = omega arith
   fault-code (broken-text t h b) = break-code b

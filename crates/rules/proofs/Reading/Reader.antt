@@ -1,26 +1,26 @@
 -- The reading of a label, as a function: the next element, and the machine's step over it, until END or a fault.
-use Prim.Native.Nat.{ℕ, zero, suc, _+_, _-_, _≤_, _<_}
+use Prim.Native.Nat.{ℕ, zero, suc, _+_, _<_}
 use native.Mathlib.Omega.{arith}
 use native.Mathlib.Nat.{zero-add}
 use mathlib.Core.Bool.{Bool, true, false, cond, true≢false, false≢true}
-use mathlib.Core.Path.{_≡_, refl, sym, ap, ap₂, subst, _∙_}
-use mathlib.Core.List.{List, [], _∷_, _++_, append-assoc, append-nil}
+use mathlib.Core.Path.{_≡_, refl, sym, ap, subst, _∙_}
+use mathlib.Core.List.{List, [], _++_, append-assoc, append-nil}
 use borrow.Author.Tests.{leb-true, leb-false, le-leb, lt-leb}
-use lib.Dec.{leb, ltb, eqb}
+use lib.Dec.{leb}
 use lib.ListN.{length, length-append, drop}
-use Rattle.rules.specs.Data.{Span, Fixed, Elem, name, the, end, integer, based, real, moment, range, text, symbol, Placed, _on_, Row, Opens, outside, inside, depth}
+use Rattle.rules.specs.Data.{Elem, name, the, end, integer, based, real, moment, range, text, symbol, Placed, _on_, Row, Opens, outside}
 use Rattle.rules.specs.Grammar.{strict, Label}
 use Rattle.rules.specs.Modes.{Mode}
-use Rattle.rules.specs.Faults.{Viable, Refused, Early}
+use Rattle.rules.specs.Faults.{Refused, Early}
 use Rattle.rules.specs.Elements.{Gap, Spells, placed, Cut, none-more, next, Fault}
-use Rattle.rules.specs.Reading.{Outcome, accepted, refused, Judged, follows, misspelled, misplaced, ends-early, Reads, too-long, read, Said, Answered, stored, no-room, not-read}
+use Rattle.rules.specs.Reading.{longest, Outcome, accepted, refused, Judged, follows, misspelled, misplaced, ends-early, Reads, too-long, read, Said, Answered, stored, no-room, not-read}
 use Rattle.rules.specs.Table.{table}
-use Rattle.rules.proofs.Grammar.Machine.{Group, in-sequence, in-row, in-set, Place, alone, within, Else, no-else, any-value, a-row, a-set-end, State, at-statement, at-semicolon, at-equals, at-pointer, at-opener, at-opened, at-closer, at-closed, at-scalar, at-number, at-member, at-row, at-next-row, at-unit, at-power, at-exponent, at-factor, at-end, Answer, refuses, goes, step}
-use Rattle.rules.proofs.Grammar.Run.{Reach, here, by-step, reading, run, trace, reach-run}
+use Rattle.rules.proofs.Grammar.Machine.{State, at-statement, at-semicolon, at-equals, at-pointer, at-opener, at-opened, at-closer, at-closed, at-scalar, at-number, at-member, at-row, at-next-row, at-unit, at-power, at-exponent, at-factor, at-end, Answer, refuses, goes, step}
+use Rattle.rules.proofs.Grammar.Run.{Reach, here, by-step, reading, trace, reach-run}
 use Rattle.rules.proofs.Grammar.Run as Run
 use Rattle.rules.proofs.Grammar.Rest.{r-end}
 use Rattle.rules.proofs.Grammar.Complete.{refuses-goes, complete}
-use Rattle.rules.proofs.Grammar.Theorems.{whole, sound-reach, label→run, refused-at, viable→taken, refused→reading, early, reach→viable, same-code, reach-more}
+use Rattle.rules.proofs.Grammar.Theorems.{whole, sound-reach, refused-at, viable→taken, early, reach→viable, same-code, reach-more}
 use Rattle.rules.proofs.Elements.Next.{Found, found, faulty, none-left, nextElement, NextIs, finds, faults, ends, spells-some, next-sound, next-complete}
 
 abbrev pub isEnd : State → Bool
@@ -66,7 +66,7 @@ abbrev pub judge : Mode → List ℕ → Outcome
 judge m l = loop m (suc (length l)) at-statement outside 0 l
 
 abbrev pub reader : Mode → List ℕ → Outcome
-reader m l = let z = judge m l in cond (leb (length l) 65535) z (refused 1 65535)
+reader m l = let z = judge m l in cond (leb (length l) longest) z (refused 1 longest)
 
 -- ---- the loop as a relation
 
@@ -252,15 +252,15 @@ module _ (m : Mode) where
   -- ---- the reading
 
   pub reads-sound : (l : List ℕ) → Reads m l (reader m l)
-  reads-sound l = go (leb (length l) 65535) refl
+  reads-sound l = go (leb (length l) longest) refl
     where
-      go : (t : Bool) → leb (length l) 65535 ≡ t → Reads m l (cond t (judge m l) (refused 1 65535))
-      go true h = read (leb-true (length l) 65535 h) (judge-sound l)
-      go false h = too-long (leb-false (length l) 65535 h)
+      go : (t : Bool) → leb (length l) longest ≡ t → Reads m l (cond t (judge m l) (refused 1 longest))
+      go true h = read (leb-true (length l) longest h) (judge-sound l)
+      go false h = too-long (leb-false (length l) longest h)
 
   pub reads-complete : {l : List ℕ} {z : Outcome} → Reads m l z → reader m l ≡ z
-  reads-complete {l} (too-long h) = rw (lt-leb (length l) 65535 h)
-  reads-complete {l} (read h j) = rw (le-leb (length l) 65535 h) (judge-complete j)
+  reads-complete {l} (too-long h) = rw (lt-leb (length l) longest h)
+  reads-complete {l} (read h j) = rw (le-leb (length l) longest h) (judge-complete j)
 
   -- every label has an outcome, and one only
   pub reading-unique : {l : List ℕ} {z z′ : Outcome} → Reads m l z → Reads m l z′ → z ≡ z′

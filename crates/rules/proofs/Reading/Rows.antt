@@ -1,11 +1,9 @@
 -- What holds of every element of a label holds of the rows that it gives.
-use Prim.Native.Nat.{ℕ, zero, suc, _≤_, _<_}
-use mathlib.Core.Path.{_≡_, refl, sym, ap, subst, _∙_}
-use mathlib.Core.Logic.{_⊎_, inl, inr}
-use mathlib.Core.Bool.{Bool, true, false}
-use mathlib.Core.List.{List, [], _∷_, _++_, append-assoc, append-nil}
-use Rattle.rules.specs.Data.{Span, Whole, one, Real, Moment, Name, Fixed, Fixed-discrete, OBJECT, END-OBJECT, GROUP, END-GROUP, BEGIN-OBJECT, BEGIN-GROUP, equals, comma, star, slash, caret, less, greater, lpar, rpar, lbrace, rbrace, power, semicolon, Elem, name, the, end, integer, based, real, moment, range, text, symbol, Placed, _on_, Kind, object, group, opener, beginner, closer, Op, first, times, divided, Row, attribute, pointer, opened, closed, an-integer, a-real, a-moment, a-text, a-symbol, a-unit, sequence, sequence-end, set, set-end, last}
-use Rattle.rules.specs.Grammar.{Strictness, strict, relaxed, Kept, ExpOp, two-stars, one-caret, Exponent, unwritten, written, Factor, factor, Factors, no-factor, by-times, by-divided, Units, no-units, units, Scalar, integer-value, based-value, real-value, date-time-value, text-value, symbol-value, identifier-value, Apart, comma-apart, beside, Scalars, no-scalar, and-scalar, Sequence1, sequence-1D, Between, side-by-side, by-comma, Rows, no-row, and-row, Sequence, one-dimension, sequence-2D, Set, set-of, empty-set, Value, scalar-value, sequence-value, set-value, range-value, Closing, unnamed, named, Semicolon, no-semicolon, a-semicolon, Opening, by-word, by-begin, Statements, no-statement, and-statement, Statement, assignment, pointing, block, Label, label}
+use Prim.Native.Nat.{ℕ}
+use mathlib.Core.Bool.{Bool}
+use mathlib.Core.List.{List, [], _∷_, _++_}
+use Rattle.rules.specs.Data.{Span, Whole, Real, Moment, Name, Fixed, equals, caret, greater, rpar, rbrace, Elem, name, the, end, integer, based, real, moment, range, text, symbol, Placed, _on_, Kind, closer, Op, Row, attribute, pointer, opened, closed, an-integer, a-real, a-moment, a-text, a-symbol, a-unit, sequence, sequence-end, set, set-end, last}
+use Rattle.rules.specs.Grammar.{Strictness, Factor, factor, Factors, no-factor, by-times, by-divided, Units, no-units, units, Scalar, integer-value, based-value, real-value, date-time-value, text-value, symbol-value, identifier-value, Scalars, no-scalar, and-scalar, Sequence1, sequence-1D, Rows, no-row, and-row, Sequence, one-dimension, sequence-2D, Set, set-of, empty-set, Value, scalar-value, sequence-value, set-value, range-value, Statements, no-statement, and-statement, assignment, pointing, block, Label, label}
 use Rattle.rules.specs.Modes.{Mode}
 
 pub data Every (P : Elem → Span → Type 0) : List Placed → Type 0 where

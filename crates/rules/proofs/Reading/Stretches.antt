@@ -8,7 +8,7 @@ use lib.Dec.{ltb, eqb}
 use lib.ListN.{length, length-append, take, drop}
 use lib.Seq.{take-at, drop-at}
 use Rattle.rules.specs.Bytes.{between, All}
-use Rattle.rules.specs.Data.{Span, Fixed, Elem, the, text, symbol, Placed, _on_, Row}
+use Rattle.rules.specs.Data.{Span, Fixed, Elem, the, text, symbol, Placed, Row}
 use Rattle.rules.specs.Modes.{Mode}
 use Rattle.rules.specs.Words.{Form}
 use Rattle.rules.specs.Elements.{Spells, word, sign, one-star, two-stars, one-slash, quoted-text, quoted-symbol, Cut, none-more, next}

@@ -1,5 +1,5 @@
 -- What is asked of a table has one answer, and every question has one.
-use Prim.Native.Nat.{ℕ, _+_, _≤_, _<_}
+use Prim.Native.Nat.{ℕ, _≤_, _<_}
 use mathlib.Core.Path.{_≡_, refl, sym, ap, subst, _∙_}
 use mathlib.Core.Bool.{Bool, true, false, cond, false≢true, true≢false}
 use mathlib.Core.List.{List, [], _∷_, _++_}
@@ -9,7 +9,7 @@ use borrow.Author.Tests.{le-leb, lt-leb, leb-true, leb-false}
 use lib.Dec.{leb}
 use lib.ListN.{length, drop}
 use Rattle.rules.specs.Data.{Span, Row, attribute, pointer, opened, closed, an-integer, a-real, a-moment, a-text, a-symbol, a-unit, sequence, sequence-end, set, set-end, last}
-use Rattle.rules.specs.Reading.{Said}
+use Rattle.rules.specs.Reading.{longest, Said}
 use Rattle.rules.specs.Proper.{stretch, Proper, Verdict, proper-rows, improper-at, Ruled, is-proper}
 use Rattle.rules.specs.Meaning.{reassemble}
 use Rattle.rules.specs.Asked.{From, Starts, says, long-label, no-table, Rows, Texted, text-refused, no-text, short-room, given, Names, of-attribute, of-pointer, of-block, of-symbol, of-unit, Shows, nowhere, Viewed, in-view, no-view, Line, an-attribute, a-pointer, an-opening, a-closing, the-last, Finding, stands, absent, Looks, Sought, search-refused, no-line, no-name, at-offset}
@@ -190,9 +190,9 @@ onVerdict (improper-at at) f g = f at
 
 unfoldable pub textedOf : List ℕ → List ℕ → ℕ → List ℕ → Outcome
 textedOf label lent row room =
-    cond (leb (length label) 65535)
+    cond (leb (length label) longest)
     (onVerdict (judgeTable label lent) (λ at. outcome (says 12 at 0) room) (λ rows. fromRow (fromOf row rows) (outcome (says 15 0 0) room) (textRow label room)))
-    (outcome (says 1 65535 0) room)
+    (outcome (says 1 longest 0) room)
 
 abbrev pub finding : Finding → Said
 finding (stands k) = says 0 0 k
@@ -203,11 +203,11 @@ lineSaid label name row qs = fromRow qs (says 15 0 0) (λ r. cond (isLine r) (fi
 
 unfoldable pub soughtOf : List ℕ → List ℕ → List ℕ → ℕ → Said
 soughtOf label lent name row =
-    cond (leb (length label) 65535) (onVerdict (judgeTable label lent) (λ at. says 12 at 0) (λ rows. lineSaid label name row (fromOf row rows))) (says 1 65535 0)
+    cond (leb (length label) longest) (onVerdict (judgeTable label lent) (λ at. says 12 at 0) (λ rows. lineSaid label name row (fromOf row rows))) (says 1 longest 0)
 
 unfoldable pub viewedOf : List ℕ → List ℕ → ℕ → Span
 viewedOf label lent row =
-    cond (leb (length label) 65535)
+    cond (leb (length label) longest)
     (onVerdict (judgeTable label lent) (λ at. nowhere) (λ rows. fromRow (fromOf row rows) nowhere (λ r. fromSpan (nameOf r) nowhere (λ p. p)))) nowhere
 
 -- ---- no second outcome, and one for every question
@@ -217,15 +217,15 @@ outcome-same e = (ap (λ (o : Outcome). o .said) e, ap (λ (o : Outcome). o .roo
 
 module _ (label lent : List ℕ) (row : ℕ) where
   -- of the rows of a proper table
-  told : {A : Type 0} (rows : List Row) → Rows label lent rows → (a : A) (f : ℕ → A) (g : List Row → A) → cond (leb (length label) 65535) (onVerdict (judgeTable label lent) f g) a ≡ g rows
-  told rows t a f g = rw (le-leb (length label) 65535 (t .short), verdict-complete label (t .short) lent (t .proper))
+  told : {A : Type 0} (rows : List Row) → Rows label lent rows → (a : A) (f : ℕ → A) (g : List Row → A) → cond (leb (length label) longest) (onVerdict (judgeTable label lent) f g) a ≡ g rows
+  told rows t a f g = rw (le-leb (length label) longest (t .short), verdict-complete label (t .short) lent (t .proper))
 
   -- of every label and table: too long, not proper, or these rows
-  each : {A : Type 0} (G : A → Type 0) (a : A) (f : ℕ → A) (g : List Row → A) → (65535 < length label → G a) → ((at : ℕ) → length label ≤ 65535 → Ruled label lent (improper-at at) → G (f at)) →
-      ((rows : List Row) → Rows label lent rows → G (g rows)) → G (cond (leb (length label) 65535) (onVerdict (judgeTable label lent) f g) a)
-  each G a f g x y z = cond-case G (leb (length label) 65535) _ _ (λ h. go (leb-true (length label) 65535 h) (judgeTable label lent) (verdict-sound label (leb-true (length label) 65535 h) lent)) (λ h. x (leb-false (length label) 65535 h))
+  each : {A : Type 0} (G : A → Type 0) (a : A) (f : ℕ → A) (g : List Row → A) → (longest < length label → G a) → ((at : ℕ) → length label ≤ longest → Ruled label lent (improper-at at) → G (f at)) →
+      ((rows : List Row) → Rows label lent rows → G (g rows)) → G (cond (leb (length label) longest) (onVerdict (judgeTable label lent) f g) a)
+  each G a f g x y z = cond-case G (leb (length label) longest) _ _ (λ h. go (leb-true (length label) longest h) (judgeTable label lent) (verdict-sound label (leb-true (length label) longest h) lent)) (λ h. x (leb-false (length label) longest h))
     where
-      go : length label ≤ 65535 → (v : Verdict) → Ruled label lent v → G (onVerdict v f g)
+      go : length label ≤ longest → (v : Verdict) → Ruled label lent v → G (onVerdict v f g)
       go h (proper-rows rows) v = z rows (record { short = h; proper = v })
       go h (improper-at at) v = y at h v
 
@@ -268,8 +268,8 @@ module _ (label lent : List ℕ) (row : ℕ) where
 
     pub texted-is : {r : List ℕ} {s : Said} → Texted label lent row room s r → textedOf label lent row room ≡ outcome s r
     unfolding textedOf
-    texted-is (text-refused (long-label h)) = rw (lt-leb (length label) 65535 h)
-    texted-is (text-refused (no-table h v)) = rw (le-leb (length label) 65535 h, verdict-complete label h lent v)
+    texted-is (text-refused (long-label h)) = rw (lt-leb (length label) longest h)
+    texted-is (text-refused (no-table h v)) = rw (le-leb (length label) longest h, verdict-complete label h lent v)
     texted-is (no-text {rows = rows} t n) =
         told rows t _ _ _ ∙ each-row (λ (o : Outcome). o ≡ outcome (says 15 0 0) room) _ _ rows (λ m. refl) (λ r st.
         each-span (λ (o : Outcome). o ≡ outcome (says 15 0 0) room) _ _ (textOf r) (λ e. refl) (λ p e. absurd (n p (subst (Starts row rows) (text-there r e) st))))
@@ -324,8 +324,8 @@ module _ (label lent : List ℕ) (row : ℕ) where
 
     pub sought-is : {s : Said} → Sought label lent name row s → soughtOf label lent name row ≡ s
     unfolding soughtOf
-    sought-is (search-refused (long-label h)) = rw (lt-leb (length label) 65535 h)
-    sought-is (search-refused (no-table h v)) = rw (le-leb (length label) 65535 h, verdict-complete label h lent v)
+    sought-is (search-refused (long-label h)) = rw (lt-leb (length label) longest h)
+    sought-is (search-refused (no-table h v)) = rw (le-leb (length label) longest h, verdict-complete label h lent v)
     sought-is (no-line {rows = rows} t n) =
         let G : Said → Type 0 = λ z. z ≡ says 15 0 0 in
         told rows t _ _ _ ∙ each-row G _ _ rows (λ m. refl) (λ r st. cond-case G (isLine r) _ _ (λ h. absurd (n r st (line-there r h))) (λ h. refl))

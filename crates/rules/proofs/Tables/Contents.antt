@@ -7,19 +7,18 @@ use mathlib.Core.Option.{Option, none, some}
 use mathlib.Core.Path.{_≡_, refl, sym, ap, _∙_}
 use mathlib.Core.List.{List, [], _∷_, map}
 use native.Mathlib.Omega.{arith}
-use borrow.Author.Tests.{leb-true, ne-eqb}
+use borrow.Author.Tests.{leb-true, eqb-true, ne-eqb}
 use lib.Dec.{leb, ltb, eqb}
 use lib.ListN.{length, length-map}
-use Rattle.rules.specs.Bytes.{ascii, between, digit, lower, letter, alnum, wordByte, fold, All}
+use Rattle.rules.specs.Bytes.{ascii, between, digit, lower, letter, alnum, wordByte, fold, front, All}
 use Rattle.rules.specs.Bytes as Bytes
-use Rattle.rules.specs.Data.{Name, OBJECT, END-OBJECT, GROUP, END-GROUP, BEGIN-OBJECT, BEGIN-GROUP, Elem, name, the, end, integer, based, moment, range}
+use Rattle.rules.specs.Data.{Name, OBJECT, END-OBJECT, GROUP, END-GROUP, BEGIN-OBJECT, BEGIN-GROUP, Elem, name, the, end, integer, based, real, moment, range, text, symbol}
 use Rattle.rules.specs.Modes.{Mode}
-use Rattle.rules.specs.Values.{Written, an-identifier, number, signed, within, same, named, fits, inBase, each, radixKept, held, realKept, dayOf, timeKept, noDay, at, then, value}
-use Rattle.rules.specs.Words.{Range, from-to, More, no-more, plain, under, Identifier, identifier, Based, in-radix, Decimal, pointed, bare, DateTime, upper-T, lower-t, Shape, identifier-word, integer-word, based-word, real-word, date-word, time-word, date-time-word, range-word, Form}
-use Rattle.rules.specs.Written.{isIdentifier, aName, ofName, isName}
+use Rattle.rules.specs.Values.{Written, an-identifier, number, signed, within, absent, same, named, unreserved, fits, inBase, each, radixKept, held, realKept, dayOf, timeKept, noDay, at, then, value}
+use Rattle.rules.specs.Words.{Range, from-to, nameByte, isIdentifier, Based, in-radix, Decimal, pointed, bare, DateTime, upper-T, lower-t, Shape, identifier-word, integer-word, based-word, real-word, date-word, time-word, date-time-word, range-word, Form}
+use Rattle.rules.specs.Written.{isName}
 use Rattle.rules.specs.Proper.{theRules, NameWord, TextBody, SymbolBody}
 use Rattle.rules.proofs.Words.Runs.{run-all, all-run}
-use Rattle.rules.proofs.Words.Identifiers.{identifier-sound, identifier-complete}
 use Rattle.rules.proofs.Tables.Tests.{and-true, and-left, and-right, or-first, or-case, not-as, between-in, between-out}
 
 -- ---- texts and symbols
@@ -56,6 +55,23 @@ symbol-body w = (
 )
 
 -- ---- names
+
+-- the element is a name
+abbrev pub aName : Elem → Bool
+aName (name n) = true
+aName (the f) = false
+aName (end b) = false
+aName (integer w) = false
+aName (based w) = false
+aName (real x) = false
+aName (moment t) = false
+aName (range lo hi) = false
+aName text = false
+aName symbol = false
+
+abbrev ofName : Option Elem → Bool
+ofName none = false
+ofName (some e) = aName e
 
 -- the tests of `named`, in their order, and the limit
 abbrev tests : List ℕ → Bool → Bool → Bool → Bool → Bool → Bool → Bool → Bool → Option Elem
@@ -99,11 +115,35 @@ named-wider pvl off u h =
     wider u off (same u (ascii "END")) (same u (ascii "OBJECT")) (same u (ascii "END_OBJECT")) (same u (ascii "GROUP")) (same u (ascii "END_GROUP")) (same u (ascii "BEGIN_OBJECT")) (pvl && same u (ascii "BEGIN_GROUP"))
     (leb (length u) 60) h
 
+-- a name is an identifier that `named` takes for one
+parts : (n : Name) (a b c d e f l : Bool) →
+    (absent (cond a (some (end true)) (cond b (some (the OBJECT)) (cond c (some (the END-OBJECT)) (cond d (some (the GROUP)) (cond e (some (the END-GROUP)) (cond f (some (the BEGIN-OBJECT)) none)))))) && l) ≡ ofName (tests n true a b c d e f l)
+parts n true b c d e f l = refl
+parts n false true c d e f l = refl
+parts n false false true d e f l = refl
+parts n false false false true e f l = refl
+parts n false false false false true f l = refl
+parts n false false false false false true l = refl
+parts n false false false false false false true = refl
+parts n false false false false false false false = refl
+
+name-parts : (w : List ℕ) → isName w ≡ (isIdentifier w && ofName (named false true (map fold w)))
+unfolding isName
+name-parts w =
+    let u : List ℕ = map fold w in
+    ap (λ (n : ℕ). isIdentifier w && (unreserved u && leb n 60)) (sym (length-map w fold))
+    ∙ ap (λ (t : Bool). isIdentifier w && t) (parts u (same u (ascii "END")) (same u (ascii "OBJECT")) (same u (ascii "END_OBJECT")) (same u (ascii "GROUP")) (same u (ascii "END_GROUP")) (same u (ascii "BEGIN_OBJECT")) (leb (length u) 60))
+
+name-identifier : (w : List ℕ) → isName w ≡ true → isIdentifier w ≡ true
+name-identifier w h = and-left (isIdentifier w) _ (sym (name-parts w) ∙ h)
+
+name-named : (w : List ℕ) → isName w ≡ true → ofName (named false true (map fold w)) ≡ true
+name-named w h = and-right (isIdentifier w) _ (sym (name-parts w) ∙ h)
+
 -- a name as it stands is the element of its folded word
 pub name-word : (off : Bool) (w : List ℕ) → isName w ≡ true → Form theRules off w (name (map fold w))
-unfolding isName
 name-word off w h =
-    (an-identifier (map fold w), identifier-word (identifier-sound w (and-left (isIdentifier w) _ h)), named-name off (map fold w) (and-right (isIdentifier w) _ h) .0)
+    (an-identifier (map fold w), identifier-word (name-identifier w h), named-name off (map fold w) (name-named w h) .0)
 
 -- what is no name
 never-within : (t : Bool) (x : Elem) → aName x ≡ false → ofName (within t x) ≡ true → ⊥
@@ -131,8 +171,7 @@ module _ (m : Mode) where
   range-never off (from-to {ds = ds} {neg = neg} {hi = hi} x y z) h = never-within (fits (signed neg (number ds)) && fits hi) (range (signed neg (number ds)) hi) refl h
 
   shape-name : (off : Bool) {w : List ℕ} {v : Written} → Shape m w v → ofName (value m off v) ≡ true → isName w ≡ true
-  unfolding isName
-  shape-name off (identifier-word {w} i) h = and-true (identifier-complete i) (named-wider (m .pvl) off (map fold w) h)
+  shape-name off (identifier-word {w} i) h = name-parts w ∙ and-true i (named-wider (m .pvl) off (map fold w) h)
   shape-name off (integer-word {n = n} i) h = absurd (never-within (fits n) (integer n) refl h)
   shape-name off (based-word x) h = absurd (based-never off x h)
   shape-name off (real-word x) h = absurd (decimal-never off x h)
@@ -155,40 +194,41 @@ letter-symbol b h =
     λ lo hi k l e. let r = between-out lo hi b e in and-true (between-in 32 126 b (omega arith) (omega arith)) (not-as (eqb b 39) (ne-eqb b 39 (λ q. omega arith))) in
     or-case (letter b) (digit b) _ h (λ e. or-case (between 65 90 b) (lower b) _ e (in-range 65 90 (omega arith) (omega arith)) (in-range 97 122 (omega arith) (omega arith))) (in-range 48 57 (omega arith) (omega arith))
 
-more-symbol : {s : List ℕ} → More s → All symbolByte s
-more-symbol no-more = Bytes.none
-more-symbol (plain {b} h hs) = Bytes.one (letter-symbol b h) (more-symbol hs)
-more-symbol (under {b} h hs) = Bytes.one refl (Bytes.one (letter-symbol b h) (more-symbol hs))
+under-symbol : (b : ℕ) → eqb b 95 ≡ true → symbolByte b ≡ true
+under-symbol b h = ap symbolByte (eqb-true b 95 h)
 
-identifier-symbol : {w : List ℕ} → Identifier w → All symbolByte w
-identifier-symbol (identifier {b} h m) = Bytes.one (letter-symbol b (or-first (letter b) (digit b) h)) (more-symbol m)
+name-byte-symbol : (b : ℕ) → nameByte b ≡ true → symbolByte b ≡ true
+name-byte-symbol b h = or-case (alnum b) (eqb b 95) _ h (letter-symbol b) (under-symbol b)
 
-identifier-some : {w : List ℕ} → Identifier w → 1 ≤ length w
-identifier-some (identifier h m) = omega arith
+each-also : (p q : ℕ → Bool) → ((b : ℕ) → p b ≡ true → q b ≡ true) → (s : List ℕ) → each p s ≡ true → each q s ≡ true
+each-also p q f [] h = refl
+each-also p q f (b ∷ s) h = and-true (f b (and-left (p b) (each p s) h)) (each-also p q f s (and-right (p b) (each p s) h))
+
+identifier-bytes : (w : List ℕ) → isIdentifier w ≡ true → each nameByte w ≡ true
+identifier-bytes w h = and-left (each nameByte w) _ (and-right (front letter w) _ h)
+
+front-some : (c : ℕ → Bool) (w : List ℕ) → front c w ≡ true → 1 ≤ length w
+front-some c [] h = absurd (false≢true h)
+front-some c (b ∷ s) h = omega arith
 
 pub name-symbol : (w : List ℕ) → isName w ≡ true → isSymbol w ≡ true
-unfolding isName isSymbol
+unfolding isSymbol
 name-symbol w h =
-    let i = identifier-sound w (and-left (isIdentifier w) _ h) in
-    let l = leb-true (length (map fold w)) 60 (named-name true (map fold w) (and-right (isIdentifier w) _ h) .1) in
-    and-true (all-passes (identifier-symbol i)) (between-in 1 255 (length w) (identifier-some i) (omega (arith, length-map w fold)))
+    let i = name-identifier w h in
+    let l = leb-true (length (map fold w)) 60 (named-name true (map fold w) (name-named w h) .1) in
+    and-true (each-also nameByte symbolByte name-byte-symbol w (identifier-bytes w i))
+    (between-in 1 255 (length w) (front-some letter w (and-left (front letter w) _ i)) (omega (arith, length-map w fold)))
 
 -- ---- the bytes of a name are word bytes, and the first is a letter
 
 pub alnum-word : (b : ℕ) → alnum b ≡ true → wordByte b ≡ true
 alnum-word b h = or-first (alnum b) _ h
 
-more-bytes : {s : List ℕ} → More s → All wordByte s
-more-bytes no-more = Bytes.none
-more-bytes (plain {b} h hs) = Bytes.one (alnum-word b h) (more-bytes hs)
-more-bytes (under {b} h hs) = Bytes.one refl (Bytes.one (alnum-word b h) (more-bytes hs))
-
-identifier-bytes : {w : List ℕ} → Identifier w → All wordByte w
-identifier-bytes (identifier {b} h m) = Bytes.one (alnum-word b (or-first (letter b) _ h)) (more-bytes m)
+name-byte-word : (b : ℕ) → nameByte b ≡ true → wordByte b ≡ true
+name-byte-word b h = or-case (alnum b) (eqb b 95) _ h (alnum-word b) (λ e. ap wordByte (eqb-true b 95 e))
 
 pub name-bytes : (w : List ℕ) → isName w ≡ true → All wordByte w
-unfolding isName
-name-bytes w h = identifier-bytes (identifier-sound w (and-left (isIdentifier w) _ h))
+name-bytes w h = passes-all wordByte w (each-also nameByte wordByte name-byte-word w (identifier-bytes w (name-identifier w h)))
 
 letter-high : (b : ℕ) → letter b ≡ true → 65 ≤ b
 letter-high b h = or-case (between 65 90 b) (between 97 122 b) (65 ≤ b) h (λ e. between-out 65 90 b e .0) (λ e. omega (arith, between-out 97 122 b e .0))
@@ -196,9 +236,9 @@ letter-high b h = or-case (between 65 90 b) (between 97 122 b) (65 ≤ b) h (λ 
 pub data Begun : List ℕ → Type 0 where
   begun : {b : ℕ} {s : List ℕ} → 65 ≤ b → Begun (b ∷ s)
 
-identifier-begun : {w : List ℕ} → Identifier w → Begun w
-identifier-begun (identifier {b} e m) = begun (letter-high b e)
+lettered-begun : (w : List ℕ) → front letter w ≡ true → Begun w
+lettered-begun [] h = absurd (false≢true h)
+lettered-begun (b ∷ s) h = begun (letter-high b h)
 
 pub name-begun : (w : List ℕ) → isName w ≡ true → Begun w
-unfolding isName
-name-begun w h = identifier-begun (identifier-sound w (and-left (isIdentifier w) _ h))
+name-begun w h = lettered-begun w (and-left (front letter w) _ (name-identifier w h))

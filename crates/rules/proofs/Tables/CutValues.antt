@@ -15,7 +15,7 @@ use Rattle.rules.specs.Bytes.{fold, between, digit, All, none, one, asci
 use Rattle.rules.specs.Modes.{Mode}
 use Rattle.rules.specs.Values.{Date, in-year, Second, Time, Written, onto, number, signed, within, same, named, fits, inBase, radixKept, significant, moved, held, realKept, monthLength, Day, dayOf, timeKept, noDay, noTime, at, then, value}
 use Rattle.rules.specs.Proper.{Each, none as none-each, one as one-each}
-use Rattle.rules.specs.Data.{Whole, Elem, name, the, end, integer, based, real, moment, Placed, _on_, range, text, symbol}
+use Rattle.rules.specs.Data.{Whole, Elem, name, the, end, integer, based, real, moment, Placed, range, text, symbol}
 use Rattle.rules.specs.Words.{from-to, Digits, Integer, signed-digits, Based, in-radix, Decimal, pointed, bare, DateWord, year-doy, year-month-day, Seconds, no-second, second, decimal, TimeWord, time, upper-T, lower-t, Shape, identifier-word, integer-word, based-word, real-word, date-word, time-word, date-time-word, range-word, Form}
 use Rattle.rules.specs.Elements.{setsOff, Spells, word, sign, one-star, two-stars, one-slash, quoted-text, quoted-symbol, Cut, none-more, next}
 use Rattle.rules.proofs.Words.Worth.{significant-last, IsDay, day-of-year}

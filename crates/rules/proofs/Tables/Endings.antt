@@ -7,7 +7,7 @@ use mathlib.Core.List.{List, [], _∷_}
 use native.Mathlib.Omega.{arith}
 use lib.ListN.{length}
 use Rattle.rules.specs.Proper.{Each, none, one, Holds}
-use Rattle.rules.specs.Data.{Whole, _on_, Kind-discrete, object, group, Row, closed, an-integer, sequence, sequence-end, set, set-end, last}
+use Rattle.rules.specs.Data.{Whole, Kind-discrete, object, group, Row, closed, an-integer, sequence, sequence-end, set, set-end, last}
 use Rattle.rules.proofs.Grammar.Machine.{Group, in-sequence, in-row, in-set, Place, alone, within}
 use Rattle.rules.proofs.Tables.RowMachine.{Sort, Sort-discrete, sort, Line, _↝_, chosen, look, opening-lines, statement-lines, after-lines, lines, Await, t-statement, t-value, t-first, t-set-first, t-in-row, t-row, t-end, t-number, t-units, t-member, Kinds, To, to-none, to, RowRun, row-here, row-by, RowAccepts}
 use Rattle.rules.proofs.Tables.Values.{Within, Valued}

@@ -5,6 +5,7 @@ use mathlib.Core.Path.{_≡_, refl, sym, ap, subst, _∙_}
 use mathlib.Core.List.{List, [], _∷_, _++_, append-nil}
 use native.Mathlib.Omega.{arith}
 use lib.ListN.{length, length-append}
+use Rattle.rules.specs.Reading.{longest}
 use Rattle.rules.specs.Data.{Row, attribute, pointer, opened, closed, an-integer, a-real, a-moment, a-text, a-symbol, a-unit, sequence, sequence-end, set, set-end, last}
 use Rattle.rules.specs.Table.{encode, table}
 use Rattle.rules.specs.Proper.{Verdict, proper-rows, improper-at, Ruled, is-proper, is-improper}
@@ -141,7 +142,7 @@ fewer-left rest r s e =
     let h : length rest ≡ length (encode r) + length s = ap length (decode-sound rest r s e) ∙ length-append (encode r) s in
     omega (arith, encode-size r)
 
-module _ (given : List ℕ) (l : length given ≤ 65535) (lent : List ℕ) where
+module _ (given : List ℕ) (l : length given ≤ longest) (lent : List ℕ) where
   short : length given < 65536
   short = omega arith
 

@@ -1,10 +1,10 @@
 -- Tables in one way only: the rows of a proper table are its own, the place of code 12 is one place, and a proper table has none.
-use Prim.Native.Nat.{ℕ, _+_, _-_, _<_}
+use Prim.Native.Nat.{ℕ, _<_}
 use mathlib.Core.Path.{_≡_, refl, sym, ap, ap₂, _∙_, subst}
 use mathlib.Core.List.{List, [], _∷_, _++_, append-assoc, append-nil}
 use native.Mathlib.Omega.{arith}
 use lib.ListN.{length}
-use Rattle.rules.specs.Proper.{Each, none, one, Held, Holds, Proper, ProperBytes, Begins, Improper}
+use Rattle.rules.specs.Proper.{Each, none, one, Held, Holds, Proper, Begins, Improper}
 use Rattle.rules.specs.Data.{Span, Moment, Row, attribute, pointer, opened, closed, an-integer, a-real, a-moment, a-text, a-symbol, a-unit, sequence, sequence-end, set, set-end, last}
 use Rattle.rules.specs.Table.{encode, table}
 use Rattle.rules.proofs.Tables.Values.{Within, MomentHeld, date-alone, time-alone, date-and-time, Valued}
@@ -94,7 +94,7 @@ module _ (given : List ℕ) (l : length given < 65536) where
       (ap₂ (λ (x : Row) (y : List Row). x ∷ y) (h .0) (f .0), f .1)
 
   -- a proper table has no such place
-  pub proper-not-improper : (lent : List ℕ) (i : ℕ) → ProperBytes given lent → Improper given lent i → ⊥
+  pub proper-not-improper : (lent : List ℕ) (i : ℕ) → (rows : List Row) × (lent ≡ table rows) × Proper given rows → Improper given lent i → ⊥
   proper-not-improper lent i p a =
       let b : Begins given (p .0) = ([], simp append-nil (p .2)) in
       let f = shorter [] (a .rows) (p .0) (a .rest) (sym (a .split) ∙ p .1) (begins-codes (a .rows) (a .until)) (begins-codes (p .0) b) b (a .none-there) in

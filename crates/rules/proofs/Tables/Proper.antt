@@ -1,11 +1,11 @@
 -- Proper tables are what the row machine accepts, with values and spans in order; what begins one is what it has not refused.
-use Prim.Native.Nat.{ℕ, _+_}
+use Prim.Native.Nat.{ℕ}
 use mathlib.Core.Path.{_≡_, sym, _∙_}
 use mathlib.Core.Logic.{_↔_}
 use mathlib.Core.List.{List, [], _∷_, _++_, map}
 use Rattle.rules.specs.Proper.{Each, theRules, aside, Holds, Proper, Begins}
-use Rattle.rules.specs.Written.{start, written}
-use Rattle.rules.specs.Data.{_on_, outside, Row}
+use Rattle.rules.specs.Written.{start, canonical}
+use Rattle.rules.specs.Data.{outside, Row}
 use Rattle.rules.specs.Meaning.{meaning}
 use Rattle.rules.proofs.Written.Pieces.{writtenPieces}
 use Rattle.rules.proofs.Tables.RowMachine.{Await, t-statement, t-end, Kinds, RowRun, row-here, row-by, RowAccepts}
@@ -45,7 +45,7 @@ accepted→proper {given} {rs} a =
     let run : RowAccepts t-statement [] m = alike-run rs m e (a .run) in
     record {
       tabled = record {
-        label = written m;
+        label = canonical m;
         elements = place 0 (writtenPieces m);
         past = skip 0 (writtenPieces m);
         rest = 13 ∷ 10 ∷ [];

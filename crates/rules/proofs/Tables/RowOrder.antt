@@ -4,7 +4,7 @@ use native.Mathlib.Decide.{decLt}
 use mathlib.Core.Path.{_≡_, refl, sym, ap, _∙_, subst}
 use mathlib.Core.List.{List, [], _∷_, _++_, append-assoc}
 use lib.ListN.{length}
-use Rattle.rules.specs.Data.{Span, Placed, _on_, Kind, Kind-discrete, object, group, Op, Row, opened, closed, sequence-end}
+use Rattle.rules.specs.Data.{Span, Placed, Kind, Kind-discrete, object, group, Op, Row, opened, closed, sequence-end}
 use Rattle.rules.specs.Modes.{Mode}
 use Rattle.rules.specs.Grammar.{strict, Factor, factor, Factors, no-factor, by-times, by-divided, Units, no-units, units, Scalar, integer-value, based-value, real-value, date-time-value, text-value, symbol-value, identifier-value, Scalars, no-scalar, and-scalar, Sequence1, sequence-1D, Rows, no-row, and-row, one-dimension, sequence-2D, set-of, empty-set, Value, scalar-value, sequence-value, set-value, range-value, Statements, no-statement, and-statement, assignment, pointing, block, Label, label}
 use Rattle.rules.proofs.Grammar.Machine.{Group, in-sequence, in-row, in-set, Place, alone, within}

@@ -1,47 +1,81 @@
--- Identifiers as a test.
+-- Identifiers by one pass over the bytes, which is equal to the rules' test.
 use Prim.Native.Nat.{ℕ}
-use mathlib.Core.Bool.{Bool, true, false, false≢true}
-use mathlib.Core.Path.{_≡_, refl}
+use mathlib.Core.Bool.{Bool, true, false, not, _&&_, true≢false}
+use mathlib.Core.Path.{_≡_, refl, sym, ap, _∙_}
 use mathlib.Core.List.{List, [], _∷_}
 use borrow.Author.Tests.{eqb-true}
 use lib.Dec.{eqb}
-use Rattle.rules.specs.Bytes.{letter, alnum}
-use Rattle.rules.specs.Words.{More, no-more, plain, under, Identifier, identifier}
-pub use Rattle.rules.specs.Written.{nextMore, more, isIdentifier}
-use Rattle.rules.proofs.Words.Runs.{both}
+use lib.ListN.{drop}
+use Rattle.rules.specs.Bytes.{ascii, letter, alnum, front, pair, anywhere}
+use Rattle.rules.specs.Values.{same, each}
+use Rattle.rules.specs.Words.{nameByte}
+pub use Rattle.rules.specs.Words.{isIdentifier}
+use Rattle.rules.proofs.Tables.Tests.{and-false}
 
-more-complete : {s : List ℕ} → More s → more false s ≡ true
-more-complete no-more = refl
-more-complete (plain h t) = rw h (more-complete t)
-more-complete (under h t) = rw h (more-complete t)
+-- a letter or digit; an underscore with none before it; where an underscore stands before
+abbrev pub nextMore : Bool → Bool → Bool → Bool → Bool → Bool
+nextMore true y u a b = a
+nextMore false true false a b = b
+nextMore false true true a b = false
+nextMore false false u a b = false
 
-pub identifier-complete : {w : List ℕ} → Identifier w → isIdentifier w ≡ true
-identifier-complete (identifier h t) = rw h (more-complete t)
+-- what may follow a letter or digit, or an underscore
+abbrev pub more : Bool → List ℕ → Bool
+more u [] = not u
+more u (b ∷ s) = nextMore (alnum b) (eqb b 95) u (more false s) (more true s)
 
-data Under : List ℕ → Type 0 where
-  then : {b : ℕ} {s : List ℕ} → alnum b ≡ true → More s → Under (b ∷ s)
+-- ---- the rules' test, but for the first letter
 
-abbrev MoreAt : Bool → List ℕ → Type 0
-MoreAt false s = More s
-MoreAt true s = Under s
+abbrev clean : List ℕ → Bool
+clean w = each nameByte w && (not (anywhere (pair 95 95) w) && not (anywhere (λ s. same s (ascii "_")) w))
 
-underscored : {s : List ℕ} → Under s → More (95 ∷ s)
-underscored (then h t) = under h t
-
-more-sound : (u : Bool) (s : List ℕ) → more u s ≡ true → MoreAt u s
-more-sound false [] h = no-more
-more-sound true [] h = absurd (false≢true h)
-more-sound u (b ∷ s) h = go (λ v. more-sound v s) u (alnum b) refl (eqb b 95) refl h
+no-under : (b : ℕ) → alnum b ≡ true → eqb b 95 ≡ false
+no-under b h = go (eqb b 95) refl
   where
-    go : ((v : Bool) → more v s ≡ true → MoreAt v s) → (u x : Bool) → alnum b ≡ x → (y : Bool) → eqb b 95 ≡ y →
-        nextMore x y u (more false s) (more true s) ≡ true → MoreAt u (b ∷ s)
-    go ih false true e y f h = plain e (ih false h)
-    go ih true true e y f h = then e (ih false h)
-    go ih false false e true f h = rw (eqb-true b 95 f) (underscored (ih true h))
-    go ih true false e true f h = absurd (false≢true h)
-    go ih false false e false f h = absurd (false≢true h)
-    go ih true false e false f h = absurd (false≢true h)
+    go : (t : Bool) → eqb b 95 ≡ t → t ≡ false
+    go true e = absurd (true≢false (sym h ∙ ap alnum (eqb-true b 95 e)))
+    go false e = refl
 
-pub identifier-sound : (w : List ℕ) → isIdentifier w ≡ true → Identifier w
-identifier-sound [] h = absurd (false≢true h)
-identifier-sound (b ∷ s) h = let o = both (letter b) (more false s) h in identifier (o .0) (more-sound false s (o .1))
+clean-plain : (b : ℕ) (s : List ℕ) → alnum b ≡ true → clean (b ∷ s) ≡ clean s
+clean-plain b s h = rw (no-under b h, h)
+
+clean-under : (b : ℕ) (s : List ℕ) → alnum b ≡ true → clean (95 ∷ b ∷ s) ≡ clean s
+clean-under b s h = rw (no-under b h, h)
+
+clean-other : (b : ℕ) (s : List ℕ) → alnum b ≡ false → eqb b 95 ≡ false → clean (b ∷ s) ≡ false
+clean-other b s h e = rw (h, e)
+
+clean-under-other : (b : ℕ) (s : List ℕ) → alnum b ≡ false → eqb b 95 ≡ false → clean (95 ∷ b ∷ s) ≡ false
+clean-under-other b s h e = rw (h, e)
+
+-- behind an underscore, or not
+abbrev behind : Bool → List ℕ → List ℕ
+behind false s = s
+behind true s = 95 ∷ s
+
+clean-more : (u : Bool) (s : List ℕ) → clean (behind u s) ≡ more u s
+clean-more false [] = refl
+clean-more true [] = refl
+clean-more u (b ∷ s) = go (λ v. clean-more v s) u (alnum b) refl (eqb b 95) refl
+  where
+    go : ((v : Bool) → clean (behind v s) ≡ more v s) → (u x : Bool) → alnum b ≡ x → (y : Bool) → eqb b 95 ≡ y →
+        clean (behind u (b ∷ s)) ≡ nextMore x y u (more false s) (more true s)
+    go ih false true e y f = clean-plain b s e ∙ ih false
+    go ih true true e y f = clean-under b s e ∙ ih false
+    go ih false false e true f = ap (λ (c : ℕ). clean (c ∷ s)) (eqb-true b 95 f) ∙ ih true
+    go ih true false e true f = ap (λ (c : ℕ). clean (95 ∷ c ∷ s)) (eqb-true b 95 f) ∙ and-false (each nameByte s)
+    go ih false false e false f = clean-other b s e f
+    go ih true false e false f = clean-under-other b s e f
+
+-- ---- the test is the pass
+
+letter-clean : (b : ℕ) (s : List ℕ) → letter b ≡ true → clean (b ∷ s) ≡ more false s
+letter-clean b s h = clean-plain b s (rw h) ∙ clean-more false s
+
+pub identifier-pass : (w : List ℕ) → isIdentifier w ≡ (front letter w && more false (drop 1 w))
+identifier-pass [] = refl
+identifier-pass (b ∷ s) = go (letter b) refl
+  where
+    go : (t : Bool) → letter b ≡ t → (t && clean (b ∷ s)) ≡ (t && more false s)
+    go true h = letter-clean b s h
+    go false h = refl

@@ -1,11 +1,11 @@
 -- The forms of a word, as a function: one pattern for all of them, and each rule of the source against its part of it.
-use Prim.Native.Nat.{ℕ, suc, _≤_, _<_}
+use Prim.Native.Nat.{ℕ, _≤_}
 use native.Mathlib.Omega.{arith}
-use mathlib.Core.Bool.{Bool, true, false, cond, not, _&&_, _||_, false≢true, true≢false}
+use mathlib.Core.Bool.{Bool, true, false, not, _||_, false≢true, true≢false}
 use mathlib.Core.Option.{Option, none, some}
 use mathlib.Core.Path.{_≡_, refl, sym, ap, _∙_}
 use mathlib.Core.List.{List, [], _∷_, _++_, map, append-assoc, append-nil}
-use borrow.Author.Tests.{leb-true, eqb-true, ne-eqb, lt-leb, le-leb}
+use borrow.Author.Tests.{leb-true, ne-eqb, lt-leb, le-leb}
 use lib.Dec.{leb, eqb}
 use lib.ListN.{length}
 use Rattle.rules.specs.Bytes.{between, digit, letter, alnum, fold, front, pair, Run, All, one}
@@ -13,10 +13,9 @@ use Rattle.rules.specs.Bytes as Bytes
 use Rattle.rules.specs.Data.{Whole}
 use Rattle.rules.specs.Modes.{Mode}
 use Rattle.rules.specs.Values.{Date, in-year, in-month, Zone, utc, Second, Time, Written, an-identifier, a-whole, a-based, a-decimal, a-date, a-time, a-date-time, a-range, number, signed}
-use Rattle.rules.specs.Words.{Sign, unsigned, plus, minus, Digits, Unsigned, Identifier, identifier, Integer, signed-digits, Based, in-radix, Exponent, upper, lower, Scale, unscaled, scaled, Decimal, pointed, bare, Range, from-to, DateWord, year-doy, year-month-day, Seconds, no-second, second, decimal, ZoneMark, east, west, Zoned, local, utc-upper, utc-lower, by-hour, by-minute, TimeWord, time, DateTime, upper-T, lower-t, Shape, identifier-word, integer-word, based-word, real-word, date-word, time-word, date-time-word, range-word}
+use Rattle.rules.specs.Words.{Sign, unsigned, plus, minus, Digits, Unsigned, isIdentifier, Integer, signed-digits, Based, in-radix, Exponent, upper, lower, Scale, unscaled, scaled, pointed, bare, from-to, DateWord, year-doy, year-month-day, Seconds, no-second, second, decimal, ZoneMark, east, west, Zoned, local, utc-upper, utc-lower, by-hour, by-minute, TimeWord, time, upper-T, lower-t, Shape, identifier-word, integer-word, based-word, real-word, date-word, time-word, date-time-word, range-word}
 use Rattle.rules.proofs.Words.Runs.{both, run-all, all-run}
 use Rattle.rules.proofs.Words.Patterns.{G, stop, whole, byte, check, run, fork, Takes, t-stop, t-whole, t-byte, t-check, t-run, t-yes, t-no, matches, match-sound, match-complete, run-last}
-use Rattle.rules.proofs.Words.Identifiers.{isIdentifier, identifier-sound, identifier-complete}
 
 -- ---- the pattern
 
@@ -278,7 +277,7 @@ module _ (m : Mode) where
   exponent-after b neg ds h (lower i) = t-no refl (t-no refl (t-no refl (t-yes refl (t-check h (exponent-takes (a-decimal neg ds []) (lower i))))))
 
   word-takes : {w : List ℕ} {v : Written} → Shape m w v → Takes (g-word m) w v
-  word-takes (identifier-word (identifier {b} {s} h t)) = t-yes h (t-whole (identifier-complete (identifier {b = b} {s = s} h t)))
+  word-takes (identifier-word {w} h) = t-yes (both (front letter w) _ h .0) (t-whole h)
   word-takes (integer-word (signed-digits {s} {ds} sg u)) =
       let t : Takes (g-word m) (s ++ (ds ++ [])) (a-whole _) = number-takes sg (u .all) (clear-digits [] (u .all) (u .some)) refl (λ b. t-yes refl (t-check (u .some) t-stop)) in
       simp append-nil at t
@@ -468,7 +467,7 @@ module _ (m : Mode) where
   taken-after s-minus a (t-no h (t-no i (t-no j (t-no k (t-check c x))))) = absurd (false≢true c)
 
   taken-word : {w : List ℕ} {v : Written} → Takes (g-word m) w v → Shape m w v
-  taken-word (t-yes h (t-whole {w = w} x)) = identifier-word (identifier-sound w x)
+  taken-word (t-yes h (t-whole {w = w} x)) = identifier-word x
   taken-word (t-no h (t-yes i (t-byte (t-run t n x)))) = taken-after s-minus (run-all t) x
   taken-word (t-no h (t-no i (t-yes j (t-byte (t-run t n x))))) = taken-after s-plus (run-all t) x
   taken-word (t-no h (t-no i (t-no j (t-run t n x)))) = taken-after s-none (run-all t) x

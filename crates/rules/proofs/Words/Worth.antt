@@ -2,17 +2,17 @@
 use Prim.Native.Nat.{ℕ, zero, suc, _+_, _-_, _*_, _^_, _%_, _≤_, _<_}
 use native.Mathlib.Omega.{arith}
 use native.Mathlib.Nat.{pow-zero, pow-succ', mul-assoc, mul-one, add-zero}
-use mathlib.Core.Bool.{Bool, true, false, cond, _&&_, false≢true, true≢false}
+use mathlib.Core.Bool.{Bool, true, false, cond, _&&_, true≢false}
 use mathlib.Core.Logic.{_⊎_, inl, inr, _↔_}
 use mathlib.Core.Option.{Option, none, some}
 use mathlib.Core.Path.{_≡_, refl, sym, ap, subst, _∙_}
-use mathlib.Core.List.{List, [], _∷_, _++_}
+use mathlib.Core.List.{List, [], _∷_}
 use borrow.Author.Tests.{eqb-true, eqb-false, leb-true, leb-false, le-leb, lt-leb}
 use lib.Dec.{leb, eqb}
 use lib.ListN.{length}
-use Rattle.rules.specs.Bytes.{between, digit, All, one}
+use Rattle.rules.specs.Bytes.{digit, All, one}
 use Rattle.rules.specs.Bytes as Bytes
-use Rattle.rules.specs.Values.{number, onto, each, significant, monthLength, Day, nthDay, Date, in-year, dayOf}
+use Rattle.rules.specs.Values.{onto, each, significant, monthLength, Day, nthDay, in-year, dayOf}
 use Rattle.rules.proofs.Words.Runs.{both}
 
 -- ---- digits without the zeros that end them

@@ -4,7 +4,7 @@ use mathlib.Core.Path.{_≡_, refl, sym, ap, ap₂, _∙_, subst, transport}
 use mathlib.Core.List.{List, [], _∷_, map}
 use Rattle.rules.specs.Proper.{Each, none, one, aside}
 use Rattle.rules.specs.Written.{Prior, prior, after}
-use Rattle.rules.specs.Data.{Span, _on_, Opens, RowOf, Row, attribute, pointer, opened, closed, an-integer, a-real, a-moment, a-text, a-symbol, a-unit, sequence, sequence-end, set, set-end, last}
+use Rattle.rules.specs.Data.{Span, Opens, RowOf, Row, attribute, pointer, opened, closed, an-integer, a-real, a-moment, a-text, a-symbol, a-unit, sequence, sequence-end, set, set-end, last}
 use Rattle.rules.specs.Meaning.{Sense, sense, meaning}
 use Rattle.rules.proofs.Written.Pieces.{piecesOf}
 use Rattle.rules.proofs.Tables.RowMachine.{Await, Kinds, RowRun, row-run, run→function, function→run, run-aside}

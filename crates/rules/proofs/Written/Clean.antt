@@ -5,7 +5,7 @@ use mathlib.Core.Bool.{true}
 use mathlib.Core.List.{List, [], _∷_}
 use Rattle.rules.specs.Proper.{NameWord, Each, none, one, stretch, Held, Holds}
 use Rattle.rules.specs.Written.{isName, after}
-use Rattle.rules.specs.Data.{Span, _on_, Opens, outside, inside, Row, attribute, pointer, opened, closed, an-integer, a-real, a-moment, a-text, a-symbol, a-unit, sequence, sequence-end, set, set-end, last}
+use Rattle.rules.specs.Data.{Span, Opens, outside, inside, Row, attribute, pointer, opened, closed, an-integer, a-real, a-moment, a-text, a-symbol, a-unit, sequence, sequence-end, set, set-end, last}
 use Rattle.rules.specs.Meaning.{Sense, foldAll, reassemble, sense, meaning}
 use Rattle.rules.proofs.Tables.Contents.{name-test, text-body, symbol-body, isText, isSymbol}
 use Rattle.rules.proofs.Written.Texts.{reassemble-idempotent, reassemble-text}

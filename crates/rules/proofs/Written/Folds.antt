@@ -6,11 +6,12 @@ use mathlib.Core.List.{List, [], _∷_}
 use native.Mathlib.Omega.{arith}
 use borrow.Author.Tests.{ne-eqb}
 use lib.Dec.{eqb}
-use lib.ListN.{length-map}
-use Rattle.rules.specs.Bytes.{between, lower, letter, alnum, fold}
+use lib.ListN.{drop, length-map}
+use Rattle.rules.specs.Bytes.{between, lower, letter, alnum, fold, front}
 use Rattle.rules.specs.Values.{each}
-use Rattle.rules.specs.Written.{more, isIdentifier, isName}
+use Rattle.rules.specs.Written.{isName}
 use Rattle.rules.specs.Meaning.{foldAll}
+use Rattle.rules.proofs.Words.Identifiers.{more, isIdentifier, identifier-pass}
 use Rattle.rules.proofs.Tables.Contents.{isSymbol}
 use Rattle.rules.proofs.Tables.Tests.{and-true, not-as, between-in, between-out, between-below, between-above}
 
@@ -72,8 +73,11 @@ more-fold u [] = refl
 more-fold u (b ∷ s) = rw (alnum-fold, under-fold, more-fold false s, more-fold true s)
 
 pub identifier-fold : (w : List ℕ) → isIdentifier (foldAll w) ≡ isIdentifier w
-identifier-fold [] = refl
-identifier-fold (b ∷ s) = rw (letter-fold, more-fold false s)
+identifier-fold w = identifier-pass (foldAll w) ∙ go w ∙ sym (identifier-pass w)
+  where
+    go : (w : List ℕ) → (front letter (foldAll w) && more false (drop 1 (foldAll w))) ≡ (front letter w && more false (drop 1 w))
+    go [] = refl
+    go (b ∷ s) = rw (letter-fold, more-fold false s)
 
 pub name-fold : (w : List ℕ) → isName (foldAll w) ≡ isName w
 unfolding isName

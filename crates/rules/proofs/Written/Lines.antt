@@ -5,7 +5,7 @@ use mathlib.Core.List.{List, [], _∷_, _++_, append-assoc, append-nil}
 use lib.ListN.{length, length-append}
 use Rattle.rules.specs.Data.{Opens, outside}
 use Rattle.rules.specs.Meaning.{Sense}
-use Rattle.rules.specs.Written.{Prior, start, prior, after, writes, writesAll, written}
+use Rattle.rules.specs.Written.{Prior, start, prior, after, writes, writesAll, canonical}
 
 -- what the last of these rows is, and the blocks that are open after them
 abbrev pub leaves : Prior → List Sense → Prior
@@ -35,5 +35,5 @@ pub size-more : (rs : List Sense) (r : Sense) → length (soFar (rs ++ (r ∷ []
 size-more rs r = ap length (row-more rs r) ∙ length-append (soFar rs) (writes (leaves start rs) (open-after outside rs) r)
 
 -- all rows, and the last line's end
-pub all-written : (m : List Sense) → written m ≡ soFar m ++ (13 ∷ 10 ∷ [])
+pub all-written : (m : List Sense) → canonical m ≡ soFar m ++ (13 ∷ 10 ∷ [])
 all-written m = refl

@@ -8,7 +8,7 @@ use borrow.Author.Tests.{leb-true, leb-false}
 use lib.Dec.{leb}
 use lib.ListN.{length, drop}
 use Rattle.rules.specs.Data.{Row}
-use Rattle.rules.specs.Reading.{Said}
+use Rattle.rules.specs.Reading.{longest, Said}
 use Rattle.rules.specs.Proper.{Verdict, proper-rows, improper-at, Ruled}
 use Rattle.rules.specs.Meaning.{meaning}
 use Rattle.rules.specs.Written.{canonical}
@@ -31,9 +31,9 @@ not-both e = let z : _≡_ {A = ℕ} 0 1 = cc in omega arith
 module _ (label lent room : List ℕ) where
   -- where the table is proper, its canonical label decides
   data Decided (c : List ℕ) : Said → List ℕ → Type 0 where
-    too-long : 65535 < length c → Decided c (record { code = 13; place = 65535; size = 0 }) room
-    no-room : length c ≤ 65535 → length room < length c → Decided c (record { code = 11; place = length c; size = length c }) room
-    written : length c ≤ 65535 → length c ≤ length room → Decided c (record { code = 0; place = length c; size = length c }) (c ++ drop (length c) room)
+    too-long : longest < length c → Decided c (record { code = 13; place = longest; size = 0 }) room
+    no-room : length c ≤ longest → length room < length c → Decided c (record { code = 11; place = length c; size = length c }) room
+    written : length c ≤ longest → length c ≤ length room → Decided c (record { code = 0; place = length c; size = length c }) (c ++ drop (length c) room)
 
   decided-once : {c : List ℕ} {s s′ : Said} {r r′ : List ℕ} → Decided c s r → Decided c s′ r′ → (s ≡ s′) × (r ≡ r′)
   decided-once (too-long a) (too-long b) = (refl, refl)
@@ -48,9 +48,9 @@ module _ (label lent room : List ℕ) where
 
   -- an outcome by the three questions: the label's length, the verdict on the table, the canonical label
   data Asked (s : Said) (r : List ℕ) : Type 0 where
-    label-long : 65535 < length label → s ≡ record { code = 1; place = 65535; size = 0 } → r ≡ room → Asked s r
-    table-bad : (at : ℕ) → length label ≤ 65535 → Ruled label lent (improper-at at) → s ≡ record { code = 12; place = at; size = 0 } → r ≡ room → Asked s r
-    table-good : (rows : List Row) → length label ≤ 65535 → Ruled label lent (proper-rows rows) → Decided (canonical (meaning label rows)) s r → Asked s r
+    label-long : longest < length label → s ≡ record { code = 1; place = longest; size = 0 } → r ≡ room → Asked s r
+    table-bad : (at : ℕ) → length label ≤ longest → Ruled label lent (improper-at at) → s ≡ record { code = 12; place = at; size = 0 } → r ≡ room → Asked s r
+    table-good : (rows : List Row) → length label ≤ longest → Ruled label lent (proper-rows rows) → Decided (canonical (meaning label rows)) s r → Asked s r
 
   asked : {s : Said} {r : List ℕ} → Writes label lent room s r → Asked s r
   asked (long-label h) = label-long h refl refl
@@ -79,22 +79,22 @@ module _ (label lent room : List ℕ) where
 
   -- and always one
   pub writes-some : (s : Said) × (r : List ℕ) × Writes label lent room s r
-  writes-some = by-length (leb (length label) 65535) refl
+  writes-some = by-length (leb (length label) longest) refl
     where
-      by-room : (rows : List Row) → length label ≤ 65535 → Ruled label lent (proper-rows rows) → length (canonical (meaning label rows)) ≤ 65535 →
+      by-room : (rows : List Row) → length label ≤ longest → Ruled label lent (proper-rows rows) → length (canonical (meaning label rows)) ≤ longest →
           (t : Bool) → leb (length (canonical (meaning label rows))) (length room) ≡ t → (s : Said) × (r : List ℕ) × Writes label lent room s r
       by-room rows h v a true e = (_, _, stored h v a (leb-true (length (canonical (meaning label rows))) (length room) e))
       by-room rows h v a false e = (_, _, short-room h v a (leb-false (length (canonical (meaning label rows))) (length room) e))
 
-      by-size : (rows : List Row) → length label ≤ 65535 → Ruled label lent (proper-rows rows) →
-          (t : Bool) → leb (length (canonical (meaning label rows))) 65535 ≡ t → (s : Said) × (r : List ℕ) × Writes label lent room s r
-      by-size rows h v true e = by-room rows h v (leb-true (length (canonical (meaning label rows))) 65535 e) (leb (length (canonical (meaning label rows))) (length room)) refl
-      by-size rows h v false e = (_, _, long-written h v (leb-false (length (canonical (meaning label rows))) 65535 e))
+      by-size : (rows : List Row) → length label ≤ longest → Ruled label lent (proper-rows rows) →
+          (t : Bool) → leb (length (canonical (meaning label rows))) longest ≡ t → (s : Said) × (r : List ℕ) × Writes label lent room s r
+      by-size rows h v true e = by-room rows h v (leb-true (length (canonical (meaning label rows))) longest e) (leb (length (canonical (meaning label rows))) (length room)) refl
+      by-size rows h v false e = (_, _, long-written h v (leb-false (length (canonical (meaning label rows))) longest e))
 
-      by-verdict : length label ≤ 65535 → (v : Verdict) → Ruled label lent v → (s : Said) × (r : List ℕ) × Writes label lent room s r
-      by-verdict h (proper-rows rows) v = by-size rows h v (leb (length (canonical (meaning label rows))) 65535) refl
+      by-verdict : length label ≤ longest → (v : Verdict) → Ruled label lent v → (s : Said) × (r : List ℕ) × Writes label lent room s r
+      by-verdict h (proper-rows rows) v = by-size rows h v (leb (length (canonical (meaning label rows))) longest) refl
       by-verdict h (improper-at at) v = (_, _, no-table h v)
 
-      by-length : (t : Bool) → leb (length label) 65535 ≡ t → (s : Said) × (r : List ℕ) × Writes label lent room s r
-      by-length true e = by-verdict (leb-true (length label) 65535 e) (judgeTable label lent) (verdict-sound label (leb-true (length label) 65535 e) lent)
-      by-length false e = (_, _, long-label (leb-false (length label) 65535 e))
+      by-length : (t : Bool) → leb (length label) longest ≡ t → (s : Said) × (r : List ℕ) × Writes label lent room s r
+      by-length true e = by-verdict (leb-true (length label) longest e) (judgeTable label lent) (verdict-sound label (leb-true (length label) longest e) lent)
+      by-length false e = (_, _, long-label (leb-false (length label) longest e))

@@ -7,7 +7,7 @@ use mathlib.Core.List.{List, [], _∷_, _++_, append-assoc, append-nil}
 use Rattle.rules.specs.Bytes.{ascii}
 use Rattle.rules.specs.Data.{Whole, Name, Fixed, equals, comma, star, slash, caret, less, greater, lpar, rpar, lbrace, rbrace, power, Elem, name, the, end, integer, real, moment, text, symbol, opener, closer, Op, first, times, divided, Opens, outside, inside, depth, attribute, pointer, opened, closed, an-integer, a-real, a-moment, a-text, a-symbol, a-unit, sequence, sequence-end, set, set-end, last}
 use Rattle.rules.specs.Meaning.{Sense}
-use Rattle.rules.specs.Written.{decimal, realBytes, momentBytes, isName, symbolBytes, opSign, isOne, openWord, closeWord, Prior, start, line, assigned, member, factor, bracket, row, prior, unitsEnd, lead, newLine, around, after, repeats, writes, writesAll, written}
+use Rattle.rules.specs.Written.{decimal, realBytes, momentBytes, isName, symbolBytes, opSign, isOne, openWord, closeWord, Prior, start, line, assigned, member, factor, bracket, row, prior, unitsEnd, lead, newLine, around, after, repeats, writes, writesAll, canonical}
 
 pub record Piece : Type 0 where
   pub gap : List ℕ
@@ -197,5 +197,5 @@ rows-bytes q o (r ∷ rs) =
     ∙ ap (λ (l : List ℕ). l ++ bytesOf (pieces (prior r) (after o r) rs)) (row-bytes q o r) ∙ ap (λ (l : List ℕ). writes q o r ++ l) (rows-bytes (prior r) (after o r) rs)
 
 -- the bytes of the pieces are the written label
-pub written-bytes : (m : List Sense) → bytesOf (writtenPieces m) ++ (13 ∷ 10 ∷ []) ≡ written m
+pub written-bytes : (m : List Sense) → bytesOf (writtenPieces m) ++ (13 ∷ 10 ∷ []) ≡ canonical m
 written-bytes m = ap (λ (l : List ℕ). l ++ (13 ∷ 10 ∷ [])) (rows-bytes start outside m)

@@ -4,7 +4,7 @@ use mathlib.Core.Path.{_≡_, sym, ap, subst, _∙_}
 use mathlib.Core.List.{List, []}
 use lib.ListN.{length}
 use Rattle.rules.specs.Data.{outside, Row}
-use Rattle.rules.specs.Reading.{accepted, Judged, follows, Reads, read}
+use Rattle.rules.specs.Reading.{longest, accepted, Judged, follows, Reads, read}
 use Rattle.rules.specs.Proper.{theRules, Each, Proper}
 use Rattle.rules.specs.Modes.{Mode}
 use Rattle.rules.specs.Meaning.{Sense, meaning}
@@ -49,7 +49,7 @@ accepted-same e = cc
 
 module _ (given : List ℕ) (rows : List Row) (p : Proper given rows) where
   -- the reader takes it, and its table has the same meaning
-  pub reads-back : length (canonical (meaning given rows)) ≤ 65535 →
+  pub reads-back : length (canonical (meaning given rows)) ≤ longest →
       (rows′ : List Row) × (i : ℕ) × Reads theRules (canonical (meaning given rows)) (accepted rows′ i) × (meaning (canonical (meaning given rows)) rows′ ≡ meaning given rows)
   reads-back short = let b = judged-back given rows p in (b .rows, b .past, read short (b .judged), b .means)
 
@@ -70,6 +70,6 @@ pub equal-bytes : (given given′ : List ℕ) (rows rows′ : List Row) → mean
 equal-bytes given given′ rows rows′ e = ap canonical e
 
 -- a label that is read in any mode, written, and read again
-pub relabelled : (m : Mode) (label : List ℕ) {rows : List Row} {i : ℕ} → Reads m label (accepted rows i) → length (canonical (meaning label rows)) ≤ 65535 →
+pub relabelled : (m : Mode) (label : List ℕ) {rows : List Row} {i : ℕ} → Reads m label (accepted rows i) → length (canonical (meaning label rows)) ≤ longest →
     (rows′ : List Row) × (j : ℕ) × Reads theRules (canonical (meaning label rows)) (accepted rows′ j) × (meaning (canonical (meaning label rows)) rows′ ≡ meaning label rows)
 relabelled m label {rows} r short = reads-back label rows (read-proper m label r) short

@@ -7,7 +7,7 @@ use lib.ListN.{length, length-append}
 use native.Mathlib.Omega.{arith}
 use lib.Seq.{take-at, drop-at}
 use Rattle.rules.specs.Proper.{Each, none, one, stretch}
-use Rattle.rules.specs.Written.{isName, isOne, Prior, start, line, assigned, member, factor, bracket, row, prior, after, written}
+use Rattle.rules.specs.Written.{isName, isOne, Prior, start, line, assigned, member, factor, bracket, row, prior, after, canonical}
 use Rattle.rules.specs.Data.{Op, first, times, divided, Opens, outside, attribute, pointer, opened, closed, an-integer, a-real, a-moment, a-text, a-symbol, a-unit, sequence, sequence-end, set, set-end, last}
 use Rattle.rules.specs.Meaning.{Sense, foldAll, reassemble, sense, meaning}
 use Rattle.rules.proofs.Written.Pieces.{bytes-append, written-bytes, Piece, called, symbolPiece, exponentPieces, opPiece, closing, apart, before, piecesOf, pieces, bytesOf}
@@ -130,6 +130,6 @@ laid-meaning whole post n q o (r ∷ rs) (one c cs) h =
     (laid-meaning whole post (skip n (piecesOf q o r)) (prior r) (after o r) rs cs (here-skip whole post n (piecesOf q o r) ps h))
 
 -- the table of the written label has the meaning that was written
-pub written-meaning : (m : List Sense) → Each Clean m → meaning (written m) (laid 0 start outside m) ≡ m
+pub written-meaning : (m : List Sense) → Each Clean m → meaning (canonical m) (laid 0 start outside m) ≡ m
 written-meaning m c =
-    laid-meaning (written m) (13 ∷ 10 ∷ []) 0 start outside m c (subst (At (written m) 0) (sym (written-bytes m)) (at-start (written m)))
+    laid-meaning (canonical m) (13 ∷ 10 ∷ []) 0 start outside m c (subst (At (canonical m) 0) (sym (written-bytes m)) (at-start (canonical m)))

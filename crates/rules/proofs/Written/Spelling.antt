@@ -3,18 +3,19 @@ use Prim.Native.Nat.{ℕ, zero, suc, _+_, _-_}
 use mathlib.Core.Logic.{_⊎_, inl, inr}
 use mathlib.Core.Path.{_≡_, refl, sym, ap, _∙_, subst, subst₂}
 use mathlib.Core.Bool.{Bool, true, false, false≢true}
+use mathlib.Core.Option.{some}
 use mathlib.Core.List.{List, [], _∷_, _++_, append-assoc, append-nil}
 use native.Mathlib.Omega.{arith}
 use borrow.Author.Tests.{ne-eqb, le-leb}
 use lib.Dec.{leb, eqb}
 use lib.ListN.{length, length-append}
 use Rattle.rules.specs.Values.{each}
-use Rattle.rules.specs.Written.{isOne, isName, decimal, realBytes, momentBytes, openWord, closeWord, Prior, start, line, assigned, member, factor, bracket, row, prior, indent, newLine, after, around, written}
+use Rattle.rules.specs.Written.{isOne, isName, decimal, realBytes, momentBytes, openWord, closeWord, Prior, start, line, assigned, member, factor, bracket, row, prior, indent, newLine, after, around, canonical}
 use Rattle.rules.specs.Proper.{Each, theRules}
 use Rattle.rules.specs.Bytes.{between, wordByte, front, All, ascii}
 use Rattle.rules.specs.Data.{Whole, Fixed, equals, comma, caret, less, greater, lpar, rpar, lbrace, rbrace, power, Elem, name, the, end, integer, real, moment, text, symbol, _on_, Kind, object, group, opener, closer, Op, first, times, divided, Opens, outside, inside, depth, attribute, pointer, opened, closed, an-integer, a-real, a-moment, a-text, a-symbol, a-unit, sequence, sequence-end, set, set-end, last}
 use Rattle.rules.specs.Words.{Form}
-use Rattle.rules.specs.Elements.{a-sign, begin, Gap, no-gap, blank, inWord, setsOff, Spells, word, sign as sign-spelled, one-star, two-stars, one-slash, quoted-text, quoted-symbol, Cut, none-more, next as cut-next}
+use Rattle.rules.specs.Elements.{signOf, Gap, no-gap, blank, inWord, setsOff, Spells, word, sign as sign-spelled, one-star, two-stars, one-slash, quoted-text, quoted-symbol, Cut, none-more, next as cut-next}
 use Rattle.rules.specs.Meaning.{Sense}
 use Rattle.rules.proofs.Written.Pieces.{bytes-append, written-bytes, Piece, sign, plain, called, space, is, symbolPiece, exponentPieces, opPiece, closing, apart, before, repeatPieces, piecesOf, pieces, bytesOf, writtenPieces}
 use Rattle.rules.proofs.Tables.Tests.{and-left, and-right}
@@ -88,7 +89,7 @@ gap-before row l = no-gap
 
 -- ---- signs and words
 
-a-sign-spelled : (g : List ℕ) → ((l : List ℕ) → Gap theRules g l) → (b : ℕ) (f : Fixed) (r : List ℕ) → begin theRules b ≡ a-sign f → Spelled (sign g (b ∷ []) f) r
+a-sign-spelled : (g : List ℕ) → ((l : List ℕ) → Gap theRules g l) → (b : ℕ) (f : Fixed) (r : List ℕ) → signOf theRules b ≡ some f → Spelled (sign g (b ∷ []) f) r
 a-sign-spelled g h b f r e = record { blanks = h; spelled = sign-spelled e }
 
 is-spelled : (r : List ℕ) → Spelled is r
@@ -378,7 +379,7 @@ rows-spelled q o rs (Each.one {a = r} {s = rs′} c cs) (Each.one v vs) u (row-b
 
 -- the written label of accepted rows is cut into exactly its elements
 pub written-cut : (m : List Sense) → Each Clean m → Each Valued m → RowRun t-statement [] m t-end [] →
-    Cut theRules 0 (written m) (place 0 (writtenPieces m)) (skip 0 (writtenPieces m)) tailBytes
+    Cut theRules 0 (canonical m) (place 0 (writtenPieces m)) (skip 0 (writtenPieces m)) tailBytes
 written-cut m c v a =
     subst (λ (l : List ℕ). Cut theRules 0 l (place 0 (writtenPieces m)) (skip 0 (writtenPieces m)) tailBytes) (written-bytes m)
     (cut-pieces 0 (writtenPieces m) tailBytes (rows-spelled start outside m c v tt a))

@@ -1,5 +1,5 @@
 -- Numbers, dates and times are written in word bytes.
-use Prim.Native.Nat.{ℕ, suc, _+_, _-_, _/_, _%_, _^_, _<_}
+use Prim.Native.Nat.{ℕ, suc, _/_, _%_, _^_, _<_}
 use mathlib.Core.Path.{_≡_, refl}
 use mathlib.Core.Bool.{Bool, true, false, cond, false≢true}
 use mathlib.Core.List.{List, [], _∷_, _++_}
@@ -10,7 +10,7 @@ use lib.ListN.{length}
 use Rattle.rules.specs.Values.{significant}
 use Rattle.rules.specs.Written.{digits, wide, decimal, realBytes, dateBytes, fraction, zone, timeBytes, momentBytes}
 use Rattle.rules.specs.Bytes.{digit, letter, wordByte, All, none, one}
-use Rattle.rules.specs.Data.{Whole, Real, Moment, _on_}
+use Rattle.rules.specs.Data.{Whole, Real, Moment}
 use Rattle.rules.proofs.Tables.Tests.{all-append, or-second, cond-case}
 use Rattle.rules.proofs.Tables.Values.{RealHeld}
 use Rattle.rules.proofs.Tables.Contents.{alnum-word}
