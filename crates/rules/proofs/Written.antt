@@ -17,4 +17,5 @@ pub mod Spelling
 pub mod Lines
 pub mod RoundTrip
 pub mod Outcome
+pub mod Calls
 mod Examples
