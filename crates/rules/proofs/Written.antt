@@ -18,4 +18,5 @@ pub mod Lines
 pub mod RoundTrip
 pub mod Outcome
 pub mod Calls
+pub mod CallExamples
 mod Examples
