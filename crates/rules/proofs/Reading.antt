@@ -1,11 +1,11 @@
 -- The reading of a label: a function from bytes to the outcome, equal to the rules both ways; the checked examples; bytes beyond END; other modes;
--- where each row comes from; labels that start alike; the first fault, said of labels; and that a label follows the rules in exactly one way or not at all.
+-- where each row comes from; the first fault, said of labels; and that a label follows the rules in exactly one way or not at all.
 pub mod Reader
 pub mod Examples
 pub mod Outcomes
 pub mod OneWay
 pub mod EndWord
-pub mod Beyond
+pub mod Alike
 pub mod Modes
 pub mod Rows
 pub mod Stretches
@@ -13,5 +13,5 @@ pub mod Behind
 pub mod Known
 pub mod Completion
 pub mod Stays
-pub mod SameStart
+pub mod Beyond
 pub mod FirstFault

@@ -10,7 +10,7 @@ use Rattle.rules.specs.Modes.{base}
 use Rattle.rules.specs.Table.{table}
 use Rattle.rules.specs.Reading.{Outcome, accepted, refused, Reads, Said, Answered}
 use Rattle.rules.specs.Writing.{Writes}
-use Rattle.rules.specs.Asked.{says, Texted}
+use Rattle.rules.specs.Asked.{says, Texted, Viewed, Sought}
 
 pub record Example : Type 0 where
   pub input : String
@@ -58,6 +58,10 @@ pub data Call : Type 0 where
   writes : List ℕ → List ℕ → List ℕ → Said → List ℕ → Call
   -- a label, a table, the offset of a row and a room
   takes-text : List ℕ → List ℕ → ℕ → List ℕ → Said → List ℕ → Call
+  -- a label, a table, a name and the offset of a row
+  looks-up : List ℕ → List ℕ → List ℕ → ℕ → Said → Call
+  -- a label, a table and the offset of a row; the span that is handed back
+  views : List ℕ → List ℕ → ℕ → Span → Call
   -- a label, and the label that is written of its table
   relabels : List ℕ → List ℕ → Call
 
@@ -70,11 +74,25 @@ before (ℕ.suc n) = 7 ∷ before n
 abbrev pub attribute-A : List ℕ
 attribute-A = 1 ∷ 0 ∷ 0 ∷ 0 ∷ 1 ∷ []
 
+abbrev pub an-integer-of : ℕ → List ℕ
+an-integer-of n = 10 ∷ 0 ∷ 0 ∷ 0 ∷ 0 ∷ 0 ∷ 0 ∷ 0 ∷ n ∷ []
+
 abbrev pub integer-1 : List ℕ
-integer-1 = 10 ∷ 0 ∷ 0 ∷ 0 ∷ 0 ∷ 0 ∷ 0 ∷ 0 ∷ 1 ∷ []
+integer-1 = an-integer-of 1
 
 abbrev pub end-at : ℕ → List ℕ
 end-at n = 99 ∷ 0 ∷ n ∷ []
+
+-- a text of ten bytes
+abbrev pub text-table : List ℕ
+text-table = attribute-A ++ (13 ∷ 0 ∷ 3 ∷ 0 ∷ 13 ∷ end-at 18)
+
+-- the rows start at 0, 5, 10, 19, 20, 25 and 34
+abbrev pub group-label : List ℕ
+group-label = ascii "GROUP=G A=1 END_GROUP A=2 END"
+
+abbrev pub group-table : List ℕ
+group-table = 5 ∷ 0 ∷ 6 ∷ 0 ∷ 7 ∷ 1 ∷ 0 ∷ 8 ∷ 0 ∷ 9 ∷ (integer-1 ++ (6 ∷ 1 ∷ 0 ∷ 22 ∷ 0 ∷ 23 ∷ (an-integer-of 2 ++ end-at 29)))
 
 abbrev pub calls : List Call
 calls =
@@ -91,8 +109,19 @@ calls =
     ∷ writes (ascii "A=1 END") (attribute-A ++ (10 ∷ 0 ∷ 0 ∷ [])) (before 2) (says 12 5 0) (before 2)
     ∷ writes (ascii "A=1 END") (attribute-A ++ integer-1) (before 2) (says 12 14 0) (before 2)
     -- a text is joined at a hyphen that ends a line, and not where a space stands behind the hyphen
-    ∷ takes-text (ascii "A=\"Jupi-\r\nter\" END") (attribute-A ++ (13 ∷ 0 ∷ 3 ∷ 0 ∷ 13 ∷ end-at 18)) 5 (before 9) (says 0 0 7) (ascii "Jupiter" ++ before 2)
-    ∷ takes-text (ascii "A=\"Jupi- \nter\" END") (attribute-A ++ (13 ∷ 0 ∷ 3 ∷ 0 ∷ 13 ∷ end-at 18)) 5 (before 9) (says 0 0 9) (ascii "Jupi- ter")
+    ∷ takes-text (ascii "A=\"Jupi-\r\nter\" END") text-table 5 (before 9) (says 0 0 7) (ascii "Jupiter" ++ before 2)
+    ∷ takes-text (ascii "A=\"Jupi- \nter\" END") text-table 5 (before 9) (says 0 0 9) (ascii "Jupi- ter")
+    -- 11: the text's length, with place 0; 15: the row of a name is no text
+    ∷ takes-text (ascii "A=\"Jupi-\r\nter\" END") text-table 5 (before 6) (says 11 0 7) (before 6)
+    ∷ takes-text (ascii "A=\"Jupi-\r\nter\" END") text-table 0 (before 6) (says 15 0 0) (before 6)
+    -- a lookup passes over a block whole, stays within the block of its row, and takes a closing row for one of the block it closes; 15: the row of a number
+    ∷ looks-up group-label group-table (ascii "a") 0 (says 0 0 20)
+    ∷ looks-up group-label group-table (ascii "a") 5 (says 0 0 5)
+    ∷ looks-up group-label group-table (ascii "a") 19 (says 14 0 0)
+    ∷ looks-up group-label group-table (ascii "a") 10 (says 15 0 0)
+    -- the name of the block, and an empty stretch at the label's start of a row that has none
+    ∷ views group-label group-table 0 (to 6 7)
+    ∷ views group-label group-table 19 (to 0 0)
     -- the paper's example of relabel
     ∷ relabels (ascii "object = cam /* rig 4 */ ignored\n start = 1990-158T15:24:12\n hold = 1.50 <sec**1>\nend_object\nEND\n")
     (ascii "OBJECT = CAM\r\n  START = 1990-06-07T15:24:12Z\r\n  HOLD = 15.E-1 <SEC>\r\nEND_OBJECT = CAM\r\nEND\r\n")
@@ -110,6 +139,8 @@ abbrev pub CallHolds : Call → Type 0
 CallHolds (reads label room s after) = Answered base label room s after
 CallHolds (writes label lent room s after) = Writes label lent room s after
 CallHolds (takes-text label lent row room s after) = Texted label lent row room s after
+CallHolds (looks-up label lent name row s) = Sought label lent name row s
+CallHolds (views label lent row p) = Viewed label lent row p
 CallHolds (relabels label after) = Relabelled label after
 
 abbrev pub CallsHold : List Call → Type 0

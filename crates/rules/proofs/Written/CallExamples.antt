@@ -13,8 +13,8 @@ use Rattle.rules.specs.Proper.{proper-rows, Ruled}
 use Rattle.rules.specs.Meaning.{keep, breaks, join, reassemble, meaning}
 use Rattle.rules.specs.Written.{isName, unpadded, digits, wide, indent, canonical}
 use Rattle.rules.specs.Writing.{Writes, stored}
-use Rattle.rules.specs.Asked.{says, Texted}
-use Rattle.rules.specs.Examples.{Call, reads, writes, takes-text, relabels, calls, CallHolds, CallsHold}
+use Rattle.rules.specs.Asked.{says, Texted, Viewed, Sought}
+use Rattle.rules.specs.Examples.{Call, reads, writes, takes-text, looks-up, views, relabels, calls, CallHolds, CallsHold}
 use Rattle.rules.proofs.Grammar.Machine.{name-discrete}
 use Rattle.rules.proofs.Reading.Reader.{Return, reader, reads-sound, answer, answered}
 use Rattle.rules.proofs.Tables.Numbers.{valueOnto}
@@ -22,8 +22,8 @@ use Rattle.rules.proofs.Tables.Decode.{field, decode}
 use Rattle.rules.proofs.Tables.Contents.{isText, isSymbol}
 use Rattle.rules.proofs.Tables.Judge.{judgeTable}
 use Rattle.rules.proofs.Tables.OwnTable.{read-ruled}
-use Rattle.rules.proofs.Tables.Seeking.{fromOf}
-use Rattle.rules.proofs.Tables.Asked.{outcome, textedOf, texted-there}
+use Rattle.rules.proofs.Tables.Seeking.{fromOf, seeks}
+use Rattle.rules.proofs.Tables.Asked.{outcome, textedOf, soughtOf, viewedOf, texted-there, viewed-there, sought-there}
 use Rattle.rules.proofs.Tables.Asked as Asked
 use Rattle.rules.proofs.Written.Outcome.{writtenOf, writes-there}
 
@@ -41,6 +41,8 @@ abbrev Computed : Call → Type 0
 Computed (reads label room s after) = answer base label room ≡ (s, after)
 Computed (writes label lent room s after) = writtenOf label lent room ≡ (s, after)
 Computed (takes-text label lent row room s after) = textedOf label lent row room ≡ outcome s after
+Computed (looks-up label lent name row s) = soughtOf label lent name row ≡ s
+Computed (views label lent row p) = viewedOf label lent row ≡ p
 Computed (relabels label after) = Rewritten label after
 
 abbrev AllComputed : List Call → Type 0
@@ -55,6 +57,8 @@ holds : (x : Call) → Computed x → CallHolds x
 holds (reads label room s after) e = subst (λ (o : Return). Answered base label room (o .0) (o .1)) e (answered base label room)
 holds (writes label lent room s after) e = subst (λ (o : Return). Writes label lent room (o .0) (o .1)) e (writes-there label lent room)
 holds (takes-text label lent row room s after) e = subst (λ (o : Asked.Outcome). Texted label lent row room (o .said) (o .room)) e (texted-there label lent row room)
+holds (looks-up label lent name row s) e = subst (Sought label lent name row) e (sought-there label lent row name)
+holds (views label lent row p) e = subst (Viewed label lent row) e (viewed-there label lent row)
 holds (relabels label after) e =
     let r : Reads base label (accepted (e .rows) (e .past)) = subst (Reads base label) (e .reading) (reads-sound base label) in
     record { rows = e .rows; past = e .past; read = r; written = λ room h. rewrites label after (e .rows) (e .writing) (e .short) (e .short-after) (read-ruled base label r) room h }
@@ -64,5 +68,60 @@ all-hold [] h = tt
 all-hold (x ∷ xs) h = (holds x (h .0), all-hold xs (h .1))
 
 pub calls-hold : CallsHold calls
-unfolding name-discrete ℕ-discrete decLt decLe unpadded digits wide indent isName reassemble keep join breaks judgeTable decode field valueOnto isText isSymbol fromOf textedOf writtenOf
-calls-hold = all-hold calls (refl, (refl, (refl, (refl, (refl, (refl, (refl, (refl, (refl, (refl, (record { rows = _; past = _; reading = refl; writing = refl; short = omega arith; short-after = omega arith }, tt)))))))))))
+unfolding name-discrete ℕ-discrete decLt decLe unpadded digits wide indent isName reassemble keep join breaks judgeTable decode field valueOnto isText isSymbol fromOf seeks textedOf soughtOf viewedOf writtenOf
+calls-hold =
+    all-hold calls (
+      refl,
+      (
+        refl,
+        (
+          refl,
+          (
+            refl,
+            (
+              refl,
+              (
+                refl,
+                (
+                  refl,
+                  (
+                    refl,
+                    (
+                      refl,
+                      (
+                        refl,
+                        (
+                          refl,
+                          (
+                            refl,
+                            (
+                              refl,
+                              (
+                                refl,
+                                (
+                                  refl,
+                                  (
+                                    refl,
+                                    (
+                                      refl,
+                                      (
+                                        refl,
+                                        (record { rows = _; past = _; reading = refl; writing = refl; short = omega arith; short-after = omega arith }, tt),
+                                      ),
+                                    ),
+                                  ),
+                                ),
+                              ),
+                            ),
+                          ),
+                        ),
+                      ),
+                    ),
+                  ),
+                ),
+              ),
+            ),
+          ),
+        ),
+      ),
+    )
