@@ -74,40 +74,37 @@ before (ℕ.suc n) = 7 ∷ before n
 abbrev pub attribute-A : List ℕ
 attribute-A = 1 ∷ 0 ∷ 0 ∷ 0 ∷ 1 ∷ []
 
-abbrev pub an-integer-of : ℕ → List ℕ
-an-integer-of n = 10 ∷ 0 ∷ 0 ∷ 0 ∷ 0 ∷ 0 ∷ 0 ∷ 0 ∷ n ∷ []
-
-abbrev pub integer-1 : List ℕ
-integer-1 = an-integer-of 1
+abbrev pub integer-of : ℕ → List ℕ
+integer-of n = 10 ∷ 0 ∷ 0 ∷ 0 ∷ 0 ∷ 0 ∷ 0 ∷ 0 ∷ n ∷ []
 
 abbrev pub end-at : ℕ → List ℕ
 end-at n = 99 ∷ 0 ∷ n ∷ []
 
--- a text of ten bytes
+-- an attribute and its text of ten bytes
 abbrev pub text-table : List ℕ
 text-table = attribute-A ++ (13 ∷ 0 ∷ 3 ∷ 0 ∷ 13 ∷ end-at 18)
 
--- the rows start at 0, 5, 10, 19, 20, 25 and 34
+-- a group with an attribute, and one behind it; the rows of the table start at 0, 5, 10, 19, 20, 25 and 34
 abbrev pub group-label : List ℕ
 group-label = ascii "GROUP=G A=1 END_GROUP A=2 END"
 
 abbrev pub group-table : List ℕ
-group-table = 5 ∷ 0 ∷ 6 ∷ 0 ∷ 7 ∷ 1 ∷ 0 ∷ 8 ∷ 0 ∷ 9 ∷ (integer-1 ++ (6 ∷ 1 ∷ 0 ∷ 22 ∷ 0 ∷ 23 ∷ (an-integer-of 2 ++ end-at 29)))
+group-table = 5 ∷ 0 ∷ 6 ∷ 0 ∷ 7 ∷ 1 ∷ 0 ∷ 8 ∷ 0 ∷ 9 ∷ (integer-of 1 ++ (6 ∷ 1 ∷ 0 ∷ 22 ∷ 0 ∷ 23 ∷ (integer-of 2 ++ end-at 29)))
 
 abbrev pub calls : List Call
 calls =
     -- a comment runs to its `*/`, and the rest of that line is ignored: the first END is no element
-    reads (ascii "A=1 /* x */ END \n END") (before 20) (says 0 21 17) (attribute-A ++ (integer-1 ++ (end-at 21 ++ before 3)))
+    reads (ascii "A=1 /* x */ END \n END") (before 20) (says 0 21 17) (attribute-A ++ (integer-of 1 ++ (end-at 21 ++ before 3)))
     -- 10: the input's length, though blanks and a comment stand behind the last element
     ∷ reads (ascii "A=1 /* x */ y\n ") (before 2) (says 10 15 0) (before 2)
     -- 11: place as for 0, the length is the one needed, the room as it was
     ∷ reads (ascii "A=1 END") (before 16) (says 11 7 17) (before 16)
-    ∷ writes (ascii "A=1 END") (attribute-A ++ (integer-1 ++ end-at 7)) (before 11) (says 11 12 12) (before 11)
-    ∷ writes (ascii "A=1 END") (attribute-A ++ (integer-1 ++ end-at 7)) (before 13) (says 0 12 12) (ascii "A = 1\r\nEND\r\n" ++ before 1)
+    ∷ writes (ascii "A=1 END") (attribute-A ++ (integer-of 1 ++ end-at 7)) (before 11) (says 11 12 12) (before 11)
+    ∷ writes (ascii "A=1 END") (attribute-A ++ (integer-of 1 ++ end-at 7)) (before 13) (says 0 12 12) (ascii "A = 1\r\nEND\r\n" ++ before 1)
     -- 12: a row that no proper table has there, the end of a sequence; one that is cut short; whole rows are lacking
-    ∷ writes (ascii "A=1 END") (attribute-A ++ (21 ∷ (integer-1 ++ end-at 7))) (before 2) (says 12 5 0) (before 2)
+    ∷ writes (ascii "A=1 END") (attribute-A ++ (21 ∷ (integer-of 1 ++ end-at 7))) (before 2) (says 12 5 0) (before 2)
     ∷ writes (ascii "A=1 END") (attribute-A ++ (10 ∷ 0 ∷ 0 ∷ [])) (before 2) (says 12 5 0) (before 2)
-    ∷ writes (ascii "A=1 END") (attribute-A ++ integer-1) (before 2) (says 12 14 0) (before 2)
+    ∷ writes (ascii "A=1 END") (attribute-A ++ integer-of 1) (before 2) (says 12 14 0) (before 2)
     -- a text is joined at a hyphen that ends a line, and not where a space stands behind the hyphen
     ∷ takes-text (ascii "A=\"Jupi-\r\nter\" END") text-table 5 (before 9) (says 0 0 7) (ascii "Jupiter" ++ before 2)
     ∷ takes-text (ascii "A=\"Jupi- \nter\" END") text-table 5 (before 9) (says 0 0 9) (ascii "Jupi- ter")
