@@ -21,45 +21,45 @@ use Rattle.rules.proofs.Written.Outcome.{writes-once}
 -- ---- what a writing left in the room is read back
 
 -- A writing of a label and a table left `n` bytes at the front of the room `after`: they are a label, and its table means what the written table means.
-pub record LeftLabel (label lent after : List ℕ) (n : ℕ) : Type 0 where
+pub record LeftInRoom (label lent after : List ℕ) (n : ℕ) : Type 0 where
   -- the rows of the table that was written
   pub rows : List Row
   pub proper : Ruled label lent (proper-rows rows)
   -- the rows that a reading of the bytes left gives, and the place past END
-  pub rows-left : List Row
+  pub rows-back : List Row
   pub past : ℕ
-  pub reads : Reads theRules (take n after) (accepted rows-left past)
-  pub means : meaning (take n after) rows-left ≡ meaning label rows
+  pub reads : Reads theRules (take n after) (accepted rows-back past)
+  pub means : meaning (take n after) rows-back ≡ meaning label rows
 
 is-rows : {given lent : List ℕ} {rows : List Row} → Ruled given lent (proper-rows rows) → Proper given rows
 is-rows (is-proper e p) = p
 
--- no other code is 0
-pub left-label : {label lent room after : List ℕ} {said : Said} → Writes label lent room said after → said .code ≡ 0 → LeftLabel label lent after (said .size)
-left-label (long-label h) z = absurd (omega arith)
-left-label (no-table h v) z = absurd (omega arith)
-left-label (long-written h v a) z = absurd (omega arith)
-left-label (short-room h v a b) z = absurd (omega arith)
-left-label {label} {room = room} (stored {rows} h v a b) z =
+-- a writing with code 0 left such bytes
+pub left-in-room : {label lent room after : List ℕ} {said : Said} → Writes label lent room said after → said .code ≡ 0 → LeftInRoom label lent after (said .size)
+left-in-room (long-label h) z = absurd (omega arith)
+left-in-room (no-table h v) z = absurd (omega arith)
+left-in-room (long-written h v a) z = absurd (omega arith)
+left-in-room (short-room h v a b) z = absurd (omega arith)
+left-in-room {label} {room = room} (stored {rows} h v a b) z =
     let c = canonical (meaning label rows) in
     let t = reads-back label rows (is-rows v) a in
     let e : c ≡ take (length c) (c ++ drop (length c) room) = sym (take-append-seam c (drop (length c) room)) in
     record {
       rows = rows;
       proper = v;
-      rows-left = t .0;
+      rows-back = t .0;
       past = t .1;
       reads = subst (λ (l : List ℕ). Reads theRules l (accepted (t .0) (t .1))) e (t .2);
       means = subst (λ (l : List ℕ). meaning l (t .0) ≡ meaning label rows) e (t .3);
     }
 
 -- as a call: the bytes that a writing left are read with code 0 into any room that their table fits into
-pub left-stored : {label lent after : List ℕ} {n : ℕ} (b : LeftLabel label lent after n) (room : List ℕ) → length (table (b .rows-left)) ≤ length room →
-    Answered theRules (take n after) room (record { code = 0; place = b .past; size = length (table (b .rows-left)) }) (table (b .rows-left) ++ drop (length (table (b .rows-left))) room)
+pub left-stored : {label lent after : List ℕ} {n : ℕ} (b : LeftInRoom label lent after n) (room : List ℕ) → length (table (b .rows-back)) ≤ length room →
+    Answered theRules (take n after) room (record { code = 0; place = b .past; size = length (table (b .rows-back)) }) (table (b .rows-back) ++ drop (length (table (b .rows-back))) room)
 left-stored b room h = Reading.stored (b .reads) h
 
 -- and five times their number is room enough
-pub left-fits : {label lent after : List ℕ} {n : ℕ} (b : LeftLabel label lent after n) (room : List ℕ) → 5 * length (take n after) ≤ length room → length (table (b .rows-left)) ≤ length room
+pub left-fits : {label lent after : List ℕ} {n : ℕ} (b : LeftInRoom label lent after n) (room : List ℕ) → 5 * length (take n after) ≤ length room → length (table (b .rows-back)) ≤ length room
 left-fits {after = after} {n = n} b room h = enough-room (take n after) room h (b .reads)
 
 -- ---- equal meaning
