@@ -5,7 +5,7 @@ use mathlib.Core.Bool.{true, false}
 use mathlib.Core.List.{List, [], _∷_, _++_}
 use lib.ListN.{length, drop}
 use Rattle.rules.specs.Bytes.{ascii}
-use Rattle.rules.specs.Data.{Span, Whole, Moment, Row, attribute, an-integer, a-moment, set, set-end, last}
+use Rattle.rules.specs.Data.{Span, Row, attribute, an-integer, a-moment, set, set-end, last}
 use Rattle.rules.specs.Modes.{base}
 use Rattle.rules.specs.Table.{table}
 use Rattle.rules.specs.Reading.{Outcome, accepted, refused, Reads, Said, Answered}
