@@ -5,7 +5,7 @@ pub mod Examples
 pub mod Outcomes
 pub mod OneWay
 pub mod EndWord
-pub mod Beyond
+pub mod Alike
 pub mod Modes
 pub mod Rows
 pub mod Stretches
@@ -13,4 +13,5 @@ pub mod Behind
 pub mod Known
 pub mod Completion
 pub mod Stays
+pub mod Beyond
 pub mod FirstFault

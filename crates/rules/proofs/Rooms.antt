@@ -12,7 +12,7 @@ use lib.Seq.{take-at, drop-at}
 use Rattle.rules.specs.Data.{Row}
 use Rattle.rules.specs.Modes.{Mode}
 use Rattle.rules.specs.Table.{table}
-use Rattle.rules.specs.Reading.{accepted, refused, Judged, Reads, too-long, read, Said, Answered, stored, no-room, not-read}
+use Rattle.rules.specs.Reading.{longest, accepted, refused, Judged, Reads, too-long, read, Said, Answered, stored, no-room, not-read}
 use Rattle.rules.specs.Proper.{stretch, Proper, is-proper}
 use Rattle.rules.specs.Meaning.{reassemble, meaning}
 use Rattle.rules.specs.Written.{canonical}
@@ -58,7 +58,7 @@ module _ {m : Mode} {l room : List ℕ} where
   table-made (not-read a) e = absurd (omega (arith, refusal-some a))
 
   -- a label that follows the rules is accepted, or answered "no room" where its table is longer than the room
-  pub follows-taken : {rows : List Row} {i : ℕ} {s : Said} {r : List ℕ} → length l ≤ 65535 → Judged m l (accepted rows i) → Answered m l room s r →
+  pub follows-taken : {rows : List Row} {i : ℕ} {s : Said} {r : List ℕ} → length l ≤ longest → Judged m l (accepted rows i) → Answered m l room s r →
       ((length (table rows) ≤ length room) × (s .code ≡ 0) × (s .place ≡ i) × (s .size ≡ length (table rows)))
       ⊎ ((length room < length (table rows)) × (s .code ≡ 11) × (s .place ≡ i) × (s .size ≡ length (table rows)))
   follows-taken {rows} {i} {s} {r} short j a = go (leb (length (table rows)) (length room)) refl
@@ -93,8 +93,8 @@ module _ {label lent room : List ℕ} where
   beyond-writing (writing.stored {rows} h v a b) = behind (canonical (meaning label rows)) room
 
   -- each table that meets the rules becomes a label, if that fits 65,535 bytes and the lent room
-  pub becomes-label : {rows : List Row} {s : Said} {r : List ℕ} → length label ≤ 65535 → lent ≡ table rows → Proper label rows →
-      length (canonical (meaning label rows)) ≤ 65535 → length (canonical (meaning label rows)) ≤ length room → Writes label lent room s r →
+  pub becomes-label : {rows : List Row} {s : Said} {r : List ℕ} → length label ≤ longest → lent ≡ table rows → Proper label rows →
+      length (canonical (meaning label rows)) ≤ longest → length (canonical (meaning label rows)) ≤ length room → Writes label lent room s r →
       (s .code ≡ 0) × (s .size ≡ length (canonical (meaning label rows))) × (take (s .size) r ≡ canonical (meaning label rows))
   becomes-label {rows} h e p a b w =
       let u = writes-once label lent room w (writing.stored h (is-proper e p) a b) in

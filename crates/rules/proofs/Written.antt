@@ -1,5 +1,6 @@
 -- The written label: its pieces are the elements of a label, its words read back as what they print, its bytes cut into those elements, and its table has
--- the meaning that was written. Reassembly by the rules is a function, which changes nothing the second time.
+-- the meaning that was written. Reassembly by the rules is a function, which changes nothing the second time. What two calls promise together, and the
+-- examples of the calls.
 pub mod Folds
 pub mod Texts
 pub mod Reassembly
@@ -17,4 +18,6 @@ pub mod Spelling
 pub mod Lines
 pub mod RoundTrip
 pub mod Outcome
+pub mod Calls
+pub mod CallExamples
 mod Examples

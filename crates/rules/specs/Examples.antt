@@ -1,12 +1,16 @@
--- The checked examples marked P, as one list.
-use Prim.Native.Nat.{ℕ}
+-- The checked examples marked P, as one list; and examples of the calls, as another, worked out by hand from the paper.
+use Prim.Native.Nat.{ℕ, _≤_}
 use Prim.Native.String.{String}
 use mathlib.Core.Bool.{true, false}
-use mathlib.Core.List.{List, [], _∷_}
+use mathlib.Core.List.{List, [], _∷_, _++_}
+use lib.ListN.{length, drop}
 use Rattle.rules.specs.Bytes.{ascii}
-use Rattle.rules.specs.Data.{Span, Whole, Moment, Row, attribute, an-integer, a-moment, set, set-end, last}
+use Rattle.rules.specs.Data.{Span, Row, attribute, an-integer, a-moment, set, set-end, last}
 use Rattle.rules.specs.Modes.{base}
-use Rattle.rules.specs.Reading.{Outcome, accepted, refused, Reads}
+use Rattle.rules.specs.Table.{table}
+use Rattle.rules.specs.Reading.{Outcome, accepted, refused, Reads, Said, Answered}
+use Rattle.rules.specs.Writing.{Writes}
+use Rattle.rules.specs.Asked.{says, Texted, Viewed, Sought}
 
 pub record Example : Type 0 where
   pub input : String
@@ -43,3 +47,99 @@ examples =
 abbrev pub Hold : List Example → Type 0
 Hold [] = Unit {0}
 Hold (x ∷ xs) = Reads base (ascii (x .input)) (x .result) × Hold xs
+
+-- ---- the calls
+
+-- what is lent, what is said, and the room after
+pub data Call : Type 0 where
+  -- a label and a room
+  reads : List ℕ → List ℕ → Said → List ℕ → Call
+  -- a label, a table and a room
+  writes : List ℕ → List ℕ → List ℕ → Said → List ℕ → Call
+  -- a label, a table, the offset of a row and a room
+  takes-text : List ℕ → List ℕ → ℕ → List ℕ → Said → List ℕ → Call
+  -- a label, a table, a name and the offset of a row
+  looks-up : List ℕ → List ℕ → List ℕ → ℕ → Said → Call
+  -- a label, a table and the offset of a row; the span that is handed back
+  views : List ℕ → List ℕ → ℕ → Span → Call
+  -- a label, and the label that is written of its table
+  relabels : List ℕ → List ℕ → Call
+
+-- so many bytes of a room, as they were before the call
+abbrev pub before : ℕ → List ℕ
+before ℕ.zero = []
+before (ℕ.suc n) = 7 ∷ before n
+
+-- rows of tables
+abbrev pub attribute-A : List ℕ
+attribute-A = 1 ∷ 0 ∷ 0 ∷ 0 ∷ 1 ∷ []
+
+abbrev pub integer-of : ℕ → List ℕ
+integer-of n = 10 ∷ 0 ∷ 0 ∷ 0 ∷ 0 ∷ 0 ∷ 0 ∷ 0 ∷ n ∷ []
+
+abbrev pub end-at : ℕ → List ℕ
+end-at n = 99 ∷ 0 ∷ n ∷ []
+
+-- an attribute and its text of ten bytes
+abbrev pub text-table : List ℕ
+text-table = attribute-A ++ (13 ∷ 0 ∷ 3 ∷ 0 ∷ 13 ∷ end-at 18)
+
+-- a group with an attribute, and one behind it; the rows of the table start at 0, 5, 10, 19, 20, 25 and 34
+abbrev pub group-label : List ℕ
+group-label = ascii "GROUP=G A=1 END_GROUP A=2 END"
+
+abbrev pub group-table : List ℕ
+group-table = 5 ∷ 0 ∷ 6 ∷ 0 ∷ 7 ∷ 1 ∷ 0 ∷ 8 ∷ 0 ∷ 9 ∷ (integer-of 1 ++ (6 ∷ 1 ∷ 0 ∷ 22 ∷ 0 ∷ 23 ∷ (integer-of 2 ++ end-at 29)))
+
+abbrev pub calls : List Call
+calls =
+    -- a comment runs to its `*/`, and the rest of that line is ignored: the first END is no element
+    reads (ascii "A=1 /* x */ END \n END") (before 20) (says 0 21 17) (attribute-A ++ (integer-of 1 ++ (end-at 21 ++ before 3)))
+    -- 10: the input's length, though blanks and a comment stand behind the last element
+    ∷ reads (ascii "A=1 /* x */ y\n ") (before 2) (says 10 15 0) (before 2)
+    -- 11: place as for 0, the length is the one needed, the room as it was
+    ∷ reads (ascii "A=1 END") (before 16) (says 11 7 17) (before 16)
+    ∷ writes (ascii "A=1 END") (attribute-A ++ (integer-of 1 ++ end-at 7)) (before 11) (says 11 12 12) (before 11)
+    ∷ writes (ascii "A=1 END") (attribute-A ++ (integer-of 1 ++ end-at 7)) (before 13) (says 0 12 12) (ascii "A = 1\r\nEND\r\n" ++ before 1)
+    -- 12: a row that no proper table has there, the end of a sequence; one that is cut short; whole rows are lacking
+    ∷ writes (ascii "A=1 END") (attribute-A ++ (21 ∷ (integer-of 1 ++ end-at 7))) (before 2) (says 12 5 0) (before 2)
+    ∷ writes (ascii "A=1 END") (attribute-A ++ (10 ∷ 0 ∷ 0 ∷ [])) (before 2) (says 12 5 0) (before 2)
+    ∷ writes (ascii "A=1 END") (attribute-A ++ integer-of 1) (before 2) (says 12 14 0) (before 2)
+    -- a text is joined at a hyphen that ends a line, and not where a space stands behind the hyphen
+    ∷ takes-text (ascii "A=\"Jupi-\r\nter\" END") text-table 5 (before 9) (says 0 0 7) (ascii "Jupiter" ++ before 2)
+    ∷ takes-text (ascii "A=\"Jupi- \nter\" END") text-table 5 (before 9) (says 0 0 9) (ascii "Jupi- ter")
+    -- 11: the text's length, with place 0; 15: the row of a name is no text
+    ∷ takes-text (ascii "A=\"Jupi-\r\nter\" END") text-table 5 (before 6) (says 11 0 7) (before 6)
+    ∷ takes-text (ascii "A=\"Jupi-\r\nter\" END") text-table 0 (before 6) (says 15 0 0) (before 6)
+    -- a lookup passes over a block whole, stays within the block of its row, and takes a closing row for one of the block it closes; 15: the row of a number
+    ∷ looks-up group-label group-table (ascii "a") 0 (says 0 0 20)
+    ∷ looks-up group-label group-table (ascii "a") 5 (says 0 0 5)
+    ∷ looks-up group-label group-table (ascii "a") 19 (says 14 0 0)
+    ∷ looks-up group-label group-table (ascii "a") 10 (says 15 0 0)
+    -- the name of the block, and an empty stretch at the label's start of a row that has none
+    ∷ views group-label group-table 0 (to 6 7)
+    ∷ views group-label group-table 19 (to 0 0)
+    -- the paper's example of relabel
+    ∷ relabels (ascii "object = cam /* rig 4 */ ignored\n start = 1990-158T15:24:12\n hold = 1.50 <sec**1>\nend_object\nEND\n")
+    (ascii "OBJECT = CAM\r\n  START = 1990-06-07T15:24:12Z\r\n  HOLD = 15.E-1 <SEC>\r\nEND_OBJECT = CAM\r\nEND\r\n")
+    ∷ []
+
+-- a label is read, and its table written into any room that is long enough
+pub record Relabelled (label after : List ℕ) : Type 0 where
+  pub rows : List Row
+  pub past : ℕ
+  pub read : Reads base label (accepted rows past)
+  pub written : (room : List ℕ) → length after ≤ length room → Writes label (table rows) room (says 0 (length after) (length after)) (after ++ drop (length after) room)
+
+-- what the rules say of each
+abbrev pub CallHolds : Call → Type 0
+CallHolds (reads label room s after) = Answered base label room s after
+CallHolds (writes label lent room s after) = Writes label lent room s after
+CallHolds (takes-text label lent row room s after) = Texted label lent row room s after
+CallHolds (looks-up label lent name row s) = Sought label lent name row s
+CallHolds (views label lent row p) = Viewed label lent row p
+CallHolds (relabels label after) = Relabelled label after
+
+abbrev pub CallsHold : List Call → Type 0
+CallsHold [] = Unit {0}
+CallsHold (x ∷ xs) = CallHolds x × CallsHold xs

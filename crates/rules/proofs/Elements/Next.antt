@@ -16,6 +16,17 @@ pub data Found : Type 0 where
   faulty : ℕ → List ℕ → Found
   none-left : Found
 
+-- what is found is one thing: the element, the bytes that its span leaves out, the gap, the element's bytes and what follows
+pub record SameFound (e e′ : Elem) (q q′ : ℕ) (g g′ w w′ r r′ : List ℕ) : Type 0 where
+  pub elem : e ≡ e′
+  pub left : q ≡ q′
+  pub gap : g ≡ g′
+  pub bytes : w ≡ w′
+  pub rest : r ≡ r′
+
+pub same-found : {e e′ : Elem} {q q′ : ℕ} {g g′ w w′ r r′ : List ℕ} → found e q g w r ≡ found e′ q′ g′ w′ r′ → SameFound e e′ q q′ g g′ w w′ r r′
+same-found h = record { elem = cc; left = cc; gap = cc; bytes = cc; rest = cc }
+
 abbrev pub behind : List ℕ → Found → Found
 behind c (found e q g w r) = found e q (c ++ g) w r
 behind c (faulty k g) = faulty k (c ++ g)

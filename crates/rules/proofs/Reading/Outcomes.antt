@@ -12,23 +12,12 @@ use Rattle.rules.specs.Faults.{PastLimit, exponent-past, name-differs, t
 use Rattle.rules.specs.Elements.{Gap, Spells, placed, Cut, none-more, next, Breaks, open-at-end, open-at, foreign, Fault, no-element, no-form, broken-text, broken-symbol, broken-comment, empty-symbol, long-symbol}
 use Rattle.rules.specs.Elements as Elements
 use Rattle.rules.specs.Reading.{Outcome, accepted, refused, Judged, follows, misspelled, misplaced, ends-early}
-use Rattle.rules.proofs.Elements.Next.{found, nextElement, finds, next-complete}
+use Rattle.rules.proofs.Elements.Next.{same-found, nextElement, finds, next-complete}
 use Rattle.rules.proofs.Grammar.Machine.{State, at-end, goes, step}
 use Rattle.rules.proofs.Grammar.Run.{Reach, here, by-step}
 use Rattle.rules.proofs.Grammar.Complete.{refuses-goes, complete}
 use Rattle.rules.proofs.Grammar.Theorems.{unique}
 use Rattle.rules.proofs.Reading.Reader.{judge, judge-sound, judge-complete, cut-length, end-refuses}
-
--- what is found is one thing: the element, its gap, its bytes and what follows
-record SameFound (e e′ : Elem) (q q′ : ℕ) (g g′ w w′ r r′ : List ℕ) : Type 0 where
-  elem : e ≡ e′
-  left : q ≡ q′
-  gap : g ≡ g′
-  word : w ≡ w′
-  rest : r ≡ r′
-
-same-found : {e e′ : Elem} {q q′ : ℕ} {g g′ w w′ r r′ : List ℕ} → found e q g w r ≡ found e′ q′ g′ w′ r′ → SameFound e e′ q q′ g g′ w w′ r r′
-same-found h = record { elem = cc; left = cc; gap = cc; word = cc; rest = cc }
 
 module _ (m : Mode) where
   -- the rules accept or refuse every list of bytes, with one table, or one code and place
@@ -45,11 +34,11 @@ module _ (m : Mode) where
   another {i = i} {n = n} {e = e} {g = g} {w = w} x s h ih p none-more here = absurd (refuses-goes (sym (end-refuses m outside (placed i g w e n)) ∙ h))
   another {q} {q′} {o} {o′} {i} {n} {e = e} {g = g} {w = w} {l = l} {xs = xs} x s h ih {t = t} {k = k} p (next {q = n₂} {l = l₂} {e = e₂} {es = ys} g₂ w₂ x₂ s₂ c₂) (by-step {q′ = q₂} {o′ = o₂} {r = r₂} {rs = rs₂} h₂ t₂) =
       let f = same-found (sym (next-complete m (finds x s)) ∙ ap (nextElement m) (sym p) ∙ next-complete m (finds x₂ s₂)) in
-      let one : placed i g w e n ≡ placed i g₂ w₂ e₂ n₂ = rw (f .elem, f .left, f .gap, f .word) in
+      let one : placed i g w e n ≡ placed i g₂ w₂ e₂ n₂ = rw (f .elem, f .left, f .gap, f .bytes) in
       let both : goes _ _ _ ≡ goes q₂ o₂ r₂ = sym h ∙ ap (step m strict q o) one ∙ h₂ in
       let qs : q₂ ≡ q′ = cc in
       let os : o₂ ≡ o′ = cc in
-      let c : Cut m (i + length g + length w) l ys k t = rw (f .gap, f .word, f .rest) c₂ in
+      let c : Cut m (i + length g + length w) l ys k t = rw (f .gap, f .bytes, f .rest) c₂ in
       let a = ih ys k t rs₂ c (subst (λ (y : State). Reach m strict y o′ ys at-end outside rs₂) qs (subst (λ (y : Opens). Reach m strict q₂ y ys at-end outside rs₂) os t₂)) in
       (ap (λ (y : Placed). y ∷ xs) one ∙ ap (λ (zs : List Placed). placed i g₂ w₂ e₂ n₂ ∷ zs) (a .0), a .1)
 

@@ -101,7 +101,7 @@ abbrev pub walk : ℕ → List ℕ → Await → Kinds → List Row → List ℕ
 walk zero given t o done rest = improper-at (length (table done))
 walk (suc k) given t o done rest = onward (stepWith given t o (decode rest)) (ending done t rest) (λ r s t′ o′. walk k given t′ o′ (done ++ (r ∷ [])) s)
 
-pub judgeTable : List ℕ → List ℕ → Verdict
+unfoldable pub judgeTable : List ℕ → List ℕ → Verdict
 judgeTable given lent = walk (suc (length lent)) given t-statement [] [] lent
 
 at-end : (t : Await) → atEnd t ≡ true → t ≡ t-end

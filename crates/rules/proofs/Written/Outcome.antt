@@ -1,7 +1,7 @@
 -- Every label and table have an outcome of writing, and one only.
 use Prim.Native.Nat.{ℕ, _≤_, _<_}
 use native.Mathlib.Omega.{arith}
-use mathlib.Core.Bool.{Bool, true, false}
+use mathlib.Core.Bool.{cond}
 use mathlib.Core.Path.{_≡_, refl, sym, ap, subst, _∙_}
 use mathlib.Core.List.{List, _++_}
 use borrow.Author.Tests.{leb-true, leb-false}
@@ -13,11 +13,26 @@ use Rattle.rules.specs.Proper.{Verdict, proper-rows, improper-at, Ruled}
 use Rattle.rules.specs.Meaning.{meaning}
 use Rattle.rules.specs.Written.{canonical}
 use Rattle.rules.specs.Writing.{Writes, long-label, no-table, long-written, short-room, stored}
+use Rattle.rules.specs.Asked.{says}
+use Rattle.rules.proofs.Tables.Tests.{cond-case}
+use Rattle.rules.proofs.Tables.Asked.{onVerdict}
 use Rattle.rules.proofs.Tables.Judge.{judgeTable, verdict-sound, verdict-once}
 
 -- an outcome: what is said, and the room after
 abbrev pub Return : Type 0
 Return = Said × List ℕ
+
+-- of a canonical label, by its length and the room's
+abbrev pub writtenInto : List ℕ → List ℕ → Return
+writtenInto room c =
+    cond (leb (length c) longest) (cond (leb (length c) (length room)) (says 0 (length c) (length c), c ++ drop (length c) room) (says 11 (length c) (length c), room)) (says 13 longest 0, room)
+
+-- the outcome, as a function
+unfoldable pub writtenOf : List ℕ → List ℕ → List ℕ → Return
+writtenOf label lent room =
+    cond (leb (length label) longest)
+    (onVerdict (judgeTable label lent) (λ at. (says 12 at 0, room)) (λ rows. writtenInto room (canonical (meaning label rows))))
+    (says 1 longest 0, room)
 
 same-rows : {rs qs : List Row} → proper-rows rs ≡ proper-rows qs → rs ≡ qs
 same-rows e = cc
@@ -77,24 +92,27 @@ module _ (label lent room : List ℕ) where
   pub writes-once : {s s′ : Said} {r r′ : List ℕ} → Writes label lent room s r → Writes label lent room s′ r′ → (s ≡ s′) × (r ≡ r′)
   writes-once w w′ = both (asked w) (asked w′)
 
-  -- and always one
-  pub writes-some : (s : Said) × (r : List ℕ) × Writes label lent room s r
-  writes-some = by-length (leb (length label) longest) refl
+  abbrev Gives : Return → Type 0
+  Gives o = Writes label lent room (o .0) (o .1)
+
+  -- what the function gives is one
+  pub writes-there : Gives (writtenOf label lent room)
+  unfolding writtenOf
+  writes-there =
+      cond-case Gives (leb (length label) longest) _ _
+      (λ h. let short = leb-true (length label) longest h in by-verdict short (judgeTable label lent) (verdict-sound label short lent))
+      (λ h. long-label (leb-false (length label) longest h))
     where
-      by-room : (rows : List Row) → length label ≤ longest → Ruled label lent (proper-rows rows) → length (canonical (meaning label rows)) ≤ longest →
-          (t : Bool) → leb (length (canonical (meaning label rows))) (length room) ≡ t → (s : Said) × (r : List ℕ) × Writes label lent room s r
-      by-room rows h v a true e = (_, _, stored h v a (leb-true (length (canonical (meaning label rows))) (length room) e))
-      by-room rows h v a false e = (_, _, short-room h v a (leb-false (length (canonical (meaning label rows))) (length room) e))
+      by-verdict : length label ≤ longest → (v : Verdict) → Ruled label lent v → Gives (onVerdict v (λ at. (says 12 at 0, room)) (λ rows. writtenInto room (canonical (meaning label rows))))
+      by-verdict h (improper-at at) v = no-table h v
+      by-verdict h (proper-rows rows) v =
+          let c : List ℕ = canonical (meaning label rows) in
+          cond-case Gives (leb (length c) longest) _ _
+          (λ a.
+          cond-case Gives (leb (length c) (length room)) _ _ (λ b. stored h v (leb-true (length c) longest a) (leb-true (length c) (length room) b))
+          (λ b. short-room h v (leb-true (length c) longest a) (leb-false (length c) (length room) b)))
+          (λ a. long-written h v (leb-false (length c) longest a))
 
-      by-size : (rows : List Row) → length label ≤ longest → Ruled label lent (proper-rows rows) →
-          (t : Bool) → leb (length (canonical (meaning label rows))) longest ≡ t → (s : Said) × (r : List ℕ) × Writes label lent room s r
-      by-size rows h v true e = by-room rows h v (leb-true (length (canonical (meaning label rows))) longest e) (leb (length (canonical (meaning label rows))) (length room)) refl
-      by-size rows h v false e = (_, _, long-written h v (leb-false (length (canonical (meaning label rows))) longest e))
-
-      by-verdict : length label ≤ longest → (v : Verdict) → Ruled label lent v → (s : Said) × (r : List ℕ) × Writes label lent room s r
-      by-verdict h (proper-rows rows) v = by-size rows h v (leb (length (canonical (meaning label rows))) longest) refl
-      by-verdict h (improper-at at) v = (_, _, no-table h v)
-
-      by-length : (t : Bool) → leb (length label) longest ≡ t → (s : Said) × (r : List ℕ) × Writes label lent room s r
-      by-length true e = by-verdict (leb-true (length label) longest e) (judgeTable label lent) (verdict-sound label (leb-true (length label) longest e) lent)
-      by-length false e = (_, _, long-label (leb-false (length label) longest e))
+  -- so there always is one
+  pub writes-some : (s : Said) × (r : List ℕ) × Writes label lent room s r
+  writes-some = (_, _, writes-there)

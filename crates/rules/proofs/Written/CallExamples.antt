@@ -1,0 +1,127 @@
+-- The examples of the calls hold of the rules, by computation of the reading, of the verdict on a table, and of the written label.
+use Prim.Native.Nat.{ℕ, _≤_}
+use native.Mathlib.Omega.{arith}
+use native.Mathlib.Decide.{decLe, decLt, ℕ-discrete}
+use mathlib.Core.Path.{_≡_, refl, sym, subst}
+use mathlib.Core.List.{List, [], _∷_, _++_}
+use lib.ListN.{length, drop}
+use Rattle.rules.specs.Data.{Row}
+use Rattle.rules.specs.Modes.{base}
+use Rattle.rules.specs.Table.{table}
+use Rattle.rules.specs.Reading.{longest, accepted, Reads, Answered}
+use Rattle.rules.specs.Proper.{proper-rows, Ruled}
+use Rattle.rules.specs.Meaning.{keep, breaks, join, reassemble, meaning}
+use Rattle.rules.specs.Written.{isName, unpadded, digits, wide, indent, canonical}
+use Rattle.rules.specs.Writing.{Writes, stored}
+use Rattle.rules.specs.Asked.{says, Texted, Viewed, Sought}
+use Rattle.rules.specs.Examples.{Call, reads, writes, takes-text, looks-up, views, relabels, calls, CallHolds, CallsHold}
+use Rattle.rules.proofs.Grammar.Machine.{name-discrete}
+use Rattle.rules.proofs.Reading.Reader.{Return, reader, reads-sound, answer, answered}
+use Rattle.rules.proofs.Tables.Numbers.{valueOnto}
+use Rattle.rules.proofs.Tables.Decode.{field, decode}
+use Rattle.rules.proofs.Tables.Contents.{isText, isSymbol}
+use Rattle.rules.proofs.Tables.Judge.{judgeTable}
+use Rattle.rules.proofs.Tables.OwnTable.{read-ruled}
+use Rattle.rules.proofs.Tables.Seeking.{fromOf, seeks}
+use Rattle.rules.proofs.Tables.Asked.{outcome, textedOf, soughtOf, viewedOf, texted-there, viewed-there, sought-there}
+use Rattle.rules.proofs.Tables.Asked as Asked
+use Rattle.rules.proofs.Written.Outcome.{writtenOf, writes-there}
+
+-- a reading accepts, and the written label of its rows is these bytes
+record Rewritten (label after : List ℕ) : Type 0 where
+  rows : List Row
+  past : ℕ
+  reading : reader base label ≡ accepted rows past
+  writing : canonical (meaning label rows) ≡ after
+  short : length label ≤ longest
+  short-after : length after ≤ longest
+
+-- the functions give the results
+abbrev Computed : Call → Type 0
+Computed (reads label room s after) = answer base label room ≡ (s, after)
+Computed (writes label lent room s after) = writtenOf label lent room ≡ (s, after)
+Computed (takes-text label lent row room s after) = textedOf label lent row room ≡ outcome s after
+Computed (looks-up label lent name row s) = soughtOf label lent name row ≡ s
+Computed (views label lent row p) = viewedOf label lent row ≡ p
+Computed (relabels label after) = Rewritten label after
+
+abbrev AllComputed : List Call → Type 0
+AllComputed [] = Unit {0}
+AllComputed (x ∷ xs) = Computed x × AllComputed xs
+
+rewrites : (label after : List ℕ) (rows : List Row) → canonical (meaning label rows) ≡ after → length label ≤ longest → length after ≤ longest → Ruled label (table rows) (proper-rows rows) →
+    (room : List ℕ) → length after ≤ length room → Writes label (table rows) room (says 0 (length after) (length after)) (after ++ drop (length after) room)
+rewrites label after rows e h k v room f = rw (sym e) (stored h v (rw e k) (rw e f))
+
+holds : (x : Call) → Computed x → CallHolds x
+holds (reads label room s after) e = subst (λ (o : Return). Answered base label room (o .0) (o .1)) e (answered base label room)
+holds (writes label lent room s after) e = subst (λ (o : Return). Writes label lent room (o .0) (o .1)) e (writes-there label lent room)
+holds (takes-text label lent row room s after) e = subst (λ (o : Asked.Outcome). Texted label lent row room (o .said) (o .room)) e (texted-there label lent row room)
+holds (looks-up label lent name row s) e = subst (Sought label lent name row) e (sought-there label lent row name)
+holds (views label lent row p) e = subst (Viewed label lent row) e (viewed-there label lent row)
+holds (relabels label after) e =
+    let r : Reads base label (accepted (e .rows) (e .past)) = subst (Reads base label) (e .reading) (reads-sound base label) in
+    record { rows = e .rows; past = e .past; read = r; written = λ room h. rewrites label after (e .rows) (e .writing) (e .short) (e .short-after) (read-ruled base label r) room h }
+
+all-hold : (xs : List Call) → AllComputed xs → CallsHold xs
+all-hold [] h = tt
+all-hold (x ∷ xs) h = (holds x (h .0), all-hold xs (h .1))
+
+pub calls-hold : CallsHold calls
+unfolding name-discrete ℕ-discrete decLt decLe unpadded digits wide indent isName reassemble keep join breaks judgeTable decode field valueOnto isText isSymbol fromOf seeks textedOf soughtOf viewedOf writtenOf
+calls-hold =
+    all-hold calls (
+      refl,
+      (
+        refl,
+        (
+          refl,
+          (
+            refl,
+            (
+              refl,
+              (
+                refl,
+                (
+                  refl,
+                  (
+                    refl,
+                    (
+                      refl,
+                      (
+                        refl,
+                        (
+                          refl,
+                          (
+                            refl,
+                            (
+                              refl,
+                              (
+                                refl,
+                                (
+                                  refl,
+                                  (
+                                    refl,
+                                    (
+                                      refl,
+                                      (
+                                        refl,
+                                        (record { rows = _; past = _; reading = refl; writing = refl; short = omega arith; short-after = omega arith }, tt),
+                                      ),
+                                    ),
+                                  ),
+                                ),
+                              ),
+                            ),
+                          ),
+                        ),
+                      ),
+                    ),
+                  ),
+                ),
+              ),
+            ),
+          ),
+        ),
+      ),
+    )
