@@ -45,9 +45,10 @@ Computed (looks-up label lent name row s) = soughtOf label lent name row ≡ s
 Computed (views label lent row p) = viewedOf label lent row ≡ p
 Computed (relabels label after) = Rewritten label after
 
-abbrev AllComputed : List Call → Type 0
-AllComputed [] = Unit {0}
-AllComputed (x ∷ xs) = Computed x × AllComputed xs
+infixr 80 _and_
+data AllComputed : List Call → Type 0 where
+  no-more : AllComputed []
+  _and_ : {x : Call} {xs : List Call} → Computed x → AllComputed xs → AllComputed (x ∷ xs)
 
 rewrites : (label after : List ℕ) (rows : List Row) → canonical (meaning label rows) ≡ after → length label ≤ longest → length after ≤ longest → Ruled label (table rows) (proper-rows rows) →
     (room : List ℕ) → length after ≤ length room → Writes label (table rows) room (says 0 (length after) (length after)) (after ++ drop (length after) room)
@@ -63,65 +64,13 @@ holds (relabels label after) e =
     let r : Reads base label (accepted (e .rows) (e .past)) = subst (Reads base label) (e .reading) (reads-sound base label) in
     record { rows = e .rows; past = e .past; read = r; written = λ room h. rewrites label after (e .rows) (e .writing) (e .short) (e .short-after) (read-ruled base label r) room h }
 
-all-hold : (xs : List Call) → AllComputed xs → CallsHold xs
-all-hold [] h = tt
-all-hold (x ∷ xs) h = (holds x (h .0), all-hold xs (h .1))
+all-hold : {xs : List Call} → AllComputed xs → CallsHold xs
+all-hold no-more = tt
+all-hold (_and_ {x} e h) = (holds x e, all-hold h)
 
 pub calls-hold : CallsHold calls
 unfolding name-discrete ℕ-discrete decLt decLe unpadded digits wide indent isName reassemble keep join breaks judgeTable decode field valueOnto isText isSymbol fromOf seeks textedOf soughtOf viewedOf writtenOf
 calls-hold =
-    all-hold calls (
-      refl,
-      (
-        refl,
-        (
-          refl,
-          (
-            refl,
-            (
-              refl,
-              (
-                refl,
-                (
-                  refl,
-                  (
-                    refl,
-                    (
-                      refl,
-                      (
-                        refl,
-                        (
-                          refl,
-                          (
-                            refl,
-                            (
-                              refl,
-                              (
-                                refl,
-                                (
-                                  refl,
-                                  (
-                                    refl,
-                                    (
-                                      refl,
-                                      (
-                                        refl,
-                                        (record { rows = _; past = _; reading = refl; writing = refl; short = omega arith; short-after = omega arith }, tt),
-                                      ),
-                                    ),
-                                  ),
-                                ),
-                              ),
-                            ),
-                          ),
-                        ),
-                      ),
-                    ),
-                  ),
-                ),
-              ),
-            ),
-          ),
-        ),
-      ),
-    )
+    all-hold {xs = calls}
+    (refl and refl and refl and refl and refl and refl and refl and refl and refl and refl and refl and refl and refl and refl and refl and refl and refl and refl
+    and (record { rows = _; past = _; reading = refl; writing = refl; short = omega arith; short-after = omega arith }) and no-more)
