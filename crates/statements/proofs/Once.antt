@@ -1,10 +1,10 @@
 -- No second outcome meets the contract of a reading: over one label and one room, the answer and the room's last bytes are decided. Of a pass the answer
--- is, and the room where the table fits it; of the place to begin with, what a reading has of it.
+-- is, and the room where the table fits it.
 use Prim.Native.Nat.{ℕ, _≤_}
 use native.Mathlib.Omega.{arith}
 use mathlib.Core.Path.{_≡_, refl, sym, ap, ap₂, _∙_}
 use mathlib.Core.Bool.{cond}
-use mathlib.Core.List.{List, [], _++_}
+use mathlib.Core.List.{List, _++_}
 use lib.Dec.{eqb}
 use lib.ListN.{length, drop}
 use Rattle.rules.specs.Data.{Row}
@@ -12,11 +12,8 @@ use Rattle.rules.specs.Modes.{base}
 use Rattle.rules.specs.Table.{table}
 use Rattle.rules.specs.Reading.{Said, accepted, refused, read, Answered}
 use Rattle.rules.proofs.Reading.Reader.{reading-unique, answered-unique}
-use Rattle.blocks.specs.Stack.{blocksOf}
-use Rattle.blocks.proofs.Opened.{nothing-open}
 use Rattle.statements.specs.Answer.{said}
-use Rattle.statements.specs.Passes.{Starts, Passed, follows, is-refused, Ran}
-use Rattle.statements.specs.declared.cursor.Cursor.{Cursor}
+use Rattle.statements.specs.Passes.{Passed, follows, is-refused, Ran}
 use Rattle.statements.specs.declared.passes.Run.{Run}
 use Rattle.statements.specs.declared.Reading.{Reading}
 use Rattle.statements.specs.declared.Reading.the-variants.{Accepted, TooLong, ForeignByte, LeftOpen, NoForm, PastLimit, Misplaced, OtherName, TooDeep, EndNotSetOff, EndsEarly, NoRoom}
@@ -86,12 +83,3 @@ passed-once s (is-refused {c} {i} j k q) (is-refused {c = c′} {i = i′} j′ 
 pub pass-once : {label before after after′ : List ℕ} {r r′ : Run} → length label ≤ 65535 → Ran label before after r → Ran label before after′ r′ →
     (r .reading ≡ r′ .reading) × ((p n : ℕ) → r .reading ≡ Accepted p n → n ≤ length before → after ≡ after′)
 pass-once s a b = let u = passed-once s (a .passed) (b .passed) in (u .answer, u .room)
-
--- ---- the start
-
-pub start-once : {c c′ : Cursor} → Starts c → Starts c′ → (c .state ≡ c′ .state) × (blocksOf (c .blocks) ≡ blocksOf (c′ .blocks)) × (c .blocks .depth ≡ c′ .blocks .depth) × (c .at ≡ c′ .at) × (c .n ≡ c′ .n)
-start-once {c} {c′} a b =
-    (a .state ∙ sym (b .state), held c (a .depth) ∙ sym (held c′ (b .depth)), a .depth ∙ sym (b .depth), a .at ∙ sym (b .at), a .n ∙ sym (b .n))
-  where
-    held : (c : Cursor) → c .blocks .depth ≡ 0 → blocksOf (c .blocks) ≡ []
-    held c h = nothing-open (c .blocks .starts) (c .blocks .ends) (c .blocks .kinds) (c .blocks .depth) h

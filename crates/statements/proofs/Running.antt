@@ -128,16 +128,16 @@ from-start : (label : List ℕ) (t : State) (bs : List Block) (z : Outcome) → 
 from-start label t bs z m b g = rw (onto-nil z) (first-statement (rw (m, b) at g))
 
 pub begins : {c : Cursor} → Starts c → (label room : List ℕ) → Reached label room c
-begins {c} g label room = record {
+begins {c} g label room = let d : c .blocks .depth ≡ 0 = ap (λ (b : Blocks). b .depth) (g .blocks) in record {
   rs = [];
   sofar = record {
     on = λ z x. from-start label (c .state) (blocksOf (c .blocks)) z (ap (λ (t : State). t .mode) (g .state))
-        (none-held (c .blocks .starts) (c .blocks .ends) (c .blocks .kinds) (c .blocks .depth) (g .depth)) (rw (g .at) at x);
+        (none-held (c .blocks .starts) (c .blocks .ends) (c .blocks .kinds) (c .blocks .depth) d) (rw (g .at) at x);
     within = omega arith;
     count = g .n;
     small = omega arith;
   };
-  sound = sound-start (c .state) (c .blocks) (g .state) (g .depth);
+  sound = sound-start (c .state) (c .blocks) (g .state) d;
   going = rw (g .state);
   fits = omega arith;
   bytes = rw (g .n);

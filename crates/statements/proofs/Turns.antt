@@ -23,7 +23,7 @@ use Rattle.rows.specs.declared.Kind as kind
 use Rattle.rows.specs.declared.Kind.the-variants as kinds
 use Rattle.rows.proofs.Row.{enum}
 use Rattle.steps.specs.States.{closing, stateIn, stateOf, opensOf, Does, Settles, isEnded, Effect, stays, opens, closes, ends, effect, said, saidOf, stops, goes, placed, fullIn, isFull, Sees, Field, no-field, its-nest, its-kind, its-op, its-name, onlySet, fieldOf, firstState}
-use Rattle.blocks.specs.Stack.{Block, block, rest, many, topOf, blocksOf}
+use Rattle.blocks.specs.Stack.{Block, block, rest, many, topOf, blocksOf, pushOn, popOff}
 use Rattle.statements.specs.Opened.{seeing, Sound}
 use Rattle.steps.specs.declared.Mode.{Mode}
 use Rattle.steps.specs.declared.Mode.the-variants as modes
@@ -157,7 +157,7 @@ module _ {label : List ℕ} {t : State} {b : Blocks} {e : Element} {w : Stepped}
       (omega (arith, leb-false 80 (many (blocksOf b)) (sym (s .sees .full) ∙ f), counted (b .starts) (b .ends) (b .kinds) (b .depth)), z .0)
 
   pub turn-open : {k : kind.Kind} {x y : ℕ} {more : Blocks} {t′ : State} → Does label t (stateOf label t) e w → Sound t b → w .row ≡ rows.Open k x y →
-      (blocksOf more ≡ block k x y ∷ blocksOf b) × (more .depth ≡ b .depth + 1) → t′ ≡ seeing (blocksOf more) (w .state) → Moves label t b e (w .row) t′ more
+      (blocksOf more ≡ block k x y ∷ blocksOf b) × (more .depth ≡ b .depth + 1) × (more ≡ pushOn b k x y) → t′ ≡ seeing (blocksOf more) (w .state) → Moves label t b e (w .row) t′ more
   turn-open {k} {x} {y} {more} d s h p v =
       let z : Settles t e (w .state) (opens k x y) = settled d h in
       let m : w .state .mode ≡ modes.Statement = ap (λ (q : State). q .mode) (z .2) in
@@ -170,7 +170,7 @@ module _ {label : List ℕ} {t : State} {b : Blocks} {e : Element} {w : Stepped}
       })
 
   pub turn-close : {k : kind.Kind} {fewer : Blocks} {t₁ t′ : State} → Does label t (stateOf label t) e w → Sound t b → w .row ≡ rows.Close k →
-      t₁ ≡ closing (blocksOf b) (w .state) → (blocksOf fewer ≡ rest (blocksOf b)) × (fewer .depth ≤ b .depth) → t′ ≡ seeing (blocksOf fewer) t₁ → Moves label t b e (w .row) t′ fewer
+      t₁ ≡ closing (blocksOf b) (w .state) → (blocksOf fewer ≡ rest (blocksOf b)) × (fewer .depth ≤ b .depth) × (fewer ≡ popOff b) → t′ ≡ seeing (blocksOf fewer) t₁ → Moves label t b e (w .row) t′ fewer
   turn-close {k} {fewer} d s h n p v =
       let q : Settles t e (w .state) closes = settled d h in
       let z : w .state .mode ≡ modes.Closed = ap (λ (x : State). x .mode) q in

@@ -12,7 +12,7 @@ use Rattle.rules.proofs.Grammar.Machine as machine
 use Rattle.rules.proofs.Reading.Reader.{onto, Goes}
 use Rattle.steps.specs.States.{stateOf, opensOf, isEnded, firstState}
 use Rattle.steps.specs.declared.State.{State}
-use Rattle.blocks.specs.Stack.{blocksOf}
+use Rattle.blocks.specs.Stack.{blocksOf, noBlocks}
 use Rattle.blocks.specs.declared.Blocks.{Blocks}
 use Rattle.statements.specs.Answer.{said}
 use Rattle.statements.specs.Opened.{Sound}
@@ -43,7 +43,7 @@ pub record Sofar (label : List ℕ) (rs : List rule.Row) (t : State) (b : Blocks
 -- the cursor before the first element
 pub record Starts (c : Cursor) : Type 0 where
   pub state : c .state ≡ firstState
-  pub depth : c .blocks .depth ≡ 0
+  pub blocks : c .blocks ≡ noBlocks
   pub at : c .at ≡ 0
   pub n : c .n ≡ 0
 

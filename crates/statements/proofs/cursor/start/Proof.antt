@@ -7,7 +7,7 @@ use Rattle.statements.proofs.cursor.start.Tie as tie
 returns : tie.Need-returns
 returns c =
     let e = c .standing .ensures in
-    record { state = e .0 ∙ c .before .before .first-state .ensures; depth = rw (e .1) (c .before .no-blocks .ensures .1); at = e .2; n = e .3 }
+    record { state = e .0 ∙ c .before .before .first-state .ensures; blocks = e .1 ∙ c .before .no-blocks .ensures .2; at = e .2; n = e .3 }
 
 pub start-spec : {M : Type 1} → statement M
 start-spec =
