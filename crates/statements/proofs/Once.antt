@@ -10,13 +10,14 @@ use lib.ListN.{length, drop}
 use Rattle.rules.specs.Data.{Row}
 use Rattle.rules.specs.Modes.{base}
 use Rattle.rules.specs.Table.{table}
-use Rattle.rules.specs.Reading.{Said, accepted, refused, read, Answered}
+use Rattle.rules.specs.Reading.{Said, read, Answered}
 use Rattle.rules.proofs.Reading.Reader.{reading-unique, answered-unique}
 use Rattle.statements.specs.Answer.{said}
 use Rattle.statements.specs.Passes.{Passed, follows, is-refused, Ran}
 use Rattle.statements.specs.declared.passes.Run.{Run}
 use Rattle.statements.specs.declared.Reading.{Reading}
 use Rattle.statements.specs.declared.Reading.the-variants.{Accepted, TooLong, ForeignByte, LeftOpen, NoForm, PastLimit, Misplaced, OtherName, TooDeep, EndNotSetOff, EndsEarly, NoRoom}
+use Rattle.statements.proofs.Answers.{not-both}
 
 -- the answer of a code, a place and a length
 abbrev answer : ℕ → ℕ → ℕ → Reading
@@ -50,9 +51,6 @@ read-once {label} {room} a b = let u = answered-unique base label room a b in (s
 
 accepted-length : {i n p m : ℕ} → Accepted i n ≡ Accepted p m → n ≡ m
 accepted-length e = cc
-
-not-both : {rows : List Row} {i c i′ : ℕ} → accepted rows i ≡ refused c i′ → ⊥
-not-both e = let z : _≡_ {A = ℕ} 0 1 = cc in omega arith
 
 -- where the table fits the room, the room after is decided
 record Same (before after after′ : List ℕ) (r r′ : Reading) : Type 0 where
