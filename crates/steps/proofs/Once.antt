@@ -215,8 +215,8 @@ step-once {label} {t} {e = e} {r = r} {r′ = r′} d d′ =
     let w : r .row ≡ r′ .row = sym (row-again label bs (r .state) (r .row)) ∙ ap said-row z ∙ row-again label bs (r′ .state) (r′ .row) in
     let h : Settles t e (r′ .state) (effect (r .row)) = subst (λ (x : Row). Settles t e (r′ .state) (effect x)) (sym w) (d′ .kept .settles) in
     let s : r .state ≡ r′ .state =
-        by-effect label bs t e (r .state) (r′ .state) (rowsOf (r .row)) (effect (r .row)) (d .kept .settles) h
-        (ap said-state z ∙ ap (λ (x : Row). said-state (said label bs (r′ .state) x)) (sym w)) in
+    by-effect label bs t e (r .state) (r′ .state) (rowsOf (r .row)) (effect (r .row)) (d .kept .settles) h
+    (ap said-state z ∙ ap (λ (x : Row). said-state (said label bs (r′ .state) x)) (sym w)) in
     ap₂ (λ (x : State) (y : Row). record { state = x; row = y }) s w
 
 -- ---- a comparison
