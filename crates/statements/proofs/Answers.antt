@@ -41,7 +41,7 @@ front t own n h = rw h (take-at t (drop (length t) own) (length t) refl)
 same-rows : {rows rows′ : List Row} {i i′ : ℕ} → accepted rows i ≡ accepted rows′ i′ → rows ≡ rows′
 same-rows e = cc
 
-not-both : {rows : List Row} {i c i′ : ℕ} → accepted rows i ≡ refused c i′ → ⊥
+pub not-both : {rows : List Row} {i c i′ : ℕ} → accepted rows i ≡ refused c i′ → ⊥
 not-both e = let z : _≡_ {A = ℕ} 0 1 = cc in omega arith
 
 stored-as : {label room end : List ℕ} {rows : List Row} {p n : ℕ} → Reads base label (accepted rows p) → n ≡ length (table rows) → n ≤ length room → end ≡ table rows ++ drop n room →

@@ -68,7 +68,7 @@ pub enum Mode {
 }
 
 // The kind is the block's that is being opened; op, from and upto are the unit's, or the closing name's, in hand; top and full
-// are all that a step must know of the open blocks, so that it need not hold their arrays.
+// are all that a step must know of the open blocks, so that it need not hold their arrays. Outside all blocks full counts for nothing.
 pub struct State {
     pub mode: Mode,
     pub nest: Nest,
