@@ -1,7 +1,7 @@
 -- No second outcome meets the contracts of the text reader, the name view and the lookup: what is asked decides the answer, and the room's last bytes. Nor
 -- those of the walks over any bytes: to a row, and past a block.
 use Prim.Native.Nat.{ℕ}
-use mathlib.Core.Path.{_≡_, refl, sym, ap, subst, _∙_}
+use mathlib.Core.Path.{_≡_, refl, sym, ap, ap₂, subst, _∙_}
 use mathlib.Core.Bool.{cond}
 use mathlib.Core.List.{List}
 use native.Mathlib.Omega.{arith}
@@ -48,8 +48,10 @@ same-start e = ap (λ (p : rule.Span). p .from) e
 same-end : {a b c d : ℕ} → span a b ≡ span c d → b ≡ d
 same-end e = ap (λ (p : rule.Span). p .upto) e
 
-pub span-once : {label lent : List ℕ} {row : ℕ} {s s′ : Stretch} → Views label lent row s → Views label lent row s′ → (s .start ≡ s′ .start) × (s .end ≡ s′ .end)
-span-once {label} {lent} {row} a b = let u = viewed-once label lent row (a .viewed) (b .viewed) in (same-start u, same-end u)
+pub span-once : {label lent : List ℕ} {row : ℕ} {s s′ : Stretch} → Views label lent row s → Views label lent row s′ → s ≡ s′
+span-once {label} {lent} {row} a b =
+    let u = viewed-once label lent row (a .viewed) (b .viewed) in
+    ap₂ (λ (x y : ℕ). record { start = x; end = y }) (same-start u) (same-end u)
 
 pub name-once : {label lent w w′ : List ℕ} {row : ℕ} → ViewsIn label lent row w → ViewsIn label lent row w′ → w ≡ w′
 name-once {label} {lent} {row = row} a b = a .bytes ∙ ap (stretch label) (viewed-once label lent row (a .viewed) (b .viewed)) ∙ sym (b .bytes)

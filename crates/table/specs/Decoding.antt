@@ -1,4 +1,4 @@
--- A row as the code has it, against the rules' reader of rows. Terms of private contracts.
+-- A row as the code has it, against the rules' reader of rows: numbers and rows out of bodies, and the row at a place of any table.
 use Prim.Native.Nat.{ℕ, zero, suc, _+_, _≤_, _<_, max}
 use mathlib.Core.Bool.{Bool, false, cond}
 use mathlib.Core.Path.{_≡_}
