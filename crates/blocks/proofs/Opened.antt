@@ -10,7 +10,8 @@ use borrow.Author.Needs.{needs}
 use borrow.Author.Tests.{eq-eqb, ne-eqb}
 use Rattle.rows.specs.declared.Kind as kind
 use Rattle.rows.specs.declared.Kind.the-variants as kinds
-use Rattle.blocks.specs.Stack.{Block, block, blocksIn, rest, many, topOf, topIn, startOf, endOf, kindAt, kindCode}
+use Rattle.blocks.specs.Stack.{Block, block, blocksIn, rest, many, topOf, topIn, startOf, endOf, kindAt, kindCode, pushOn, popOff}
+use Rattle.blocks.specs.declared.Blocks.{Blocks}
 use Rattle.blocks.specs.declared.Top as top
 use Rattle.blocks.specs.declared.Top.the-variants as tops
 
@@ -48,6 +49,13 @@ pub popped : (s e k : List ℕ) (d : ℕ) → 0 < d → blocksIn s e k (d - 1) �
 unfolding blocksIn
 popped s e k zero h = absurd (omega arith)
 popped s e k (suc n) h = let q : suc n - 1 ≡ n = omega arith in rw q
+
+pub pushed-on : (b : Blocks) (k : kind.Kind) (x y x′ y′ c : ℕ) → x′ ≡ x → y′ ≡ y → c ≡ kindCode k →
+    record { starts = set (b .starts) (b .depth) x′; ends = set (b .ends) (b .depth) y′; kinds = set (b .kinds) (b .depth) c; depth = b .depth + 1 } ≡ pushOn b k x y
+pushed-on b k x y x′ y′ c p q e = rw (p, q, e)
+
+pub not-popped : (b : Blocks) → b .depth ≤ 0 → b ≡ popOff b
+not-popped b h = let q : b .depth - 1 ≡ b .depth = omega arith in rw q
 
 -- with no place taken there is no block
 pub nothing-open : (s e k : List ℕ) (d : ℕ) → d ≡ 0 → blocksIn s e k d ≡ []
@@ -88,4 +96,4 @@ unfolding blocksIn
 counted s e k zero = refl
 counted s e k (suc n) = ap suc (counted s e k n)
 
-pub ruleset stack = (nothing-open, pushed, popped, unpopped, no-top, some-top, no-start, some-start, no-end, some-end, is-group, is-object, needs)
+pub ruleset stack = (nothing-open, pushed, pushed-on, popped, unpopped, not-popped, no-top, some-top, no-start, some-start, no-end, some-end, is-group, is-object, needs)

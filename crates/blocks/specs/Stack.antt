@@ -1,9 +1,9 @@
 -- The open blocks as a list, the innermost first: kind, start and end of the name. Terms of private contracts.
-use Prim.Native.Nat.{ℕ, zero, suc}
+use Prim.Native.Nat.{ℕ, zero, suc, _+_, _-_}
 use mathlib.Core.Bool.{cond}
 use mathlib.Core.List.{List, [], _∷_}
 use lib.Dec.{eqb}
-use lib.ListN.{getD}
+use lib.ListN.{getD, set, replicate}
 use Rattle.rows.specs.declared.Kind as kind
 use Rattle.rows.specs.declared.Kind.the-variants as kinds
 use Rattle.blocks.specs.declared.Top as top
@@ -54,3 +54,14 @@ blocksIn s e k (suc d) = block (kindAt (getD k d 0)) (getD s d 0) (getD e d 0) �
 
 abbrev pub blocksOf : Blocks → List Block
 blocksOf b = blocksIn (b .starts) (b .ends) (b .kinds) (b .depth)
+
+-- what each function makes of the arrays, the places past the depth included
+
+abbrev pub noBlocks : Blocks
+noBlocks = record { starts = replicate 80 0; ends = replicate 80 0; kinds = replicate 80 0; depth = 0 }
+
+abbrev pub pushOn : Blocks → kind.Kind → ℕ → ℕ → Blocks
+pushOn b k x y = record { starts = set (b .starts) (b .depth) x; ends = set (b .ends) (b .depth) y; kinds = set (b .kinds) (b .depth) (kindCode k); depth = b .depth + 1 }
+
+abbrev pub popOff : Blocks → Blocks
+popOff b = record { starts = b .starts; ends = b .ends; kinds = b .kinds; depth = b .depth - 1 }

@@ -3,7 +3,7 @@ use rows::Kind;
 ghost use mathlib.Core.Path.{_≡_};
 ghost use mathlib.Core.List.{[], _∷_};
 ghost use Prim.Native.Nat.{_+_, _<_, _≤_};
-ghost use Rattle.blocks.specs.Stack.{block, kindCode, kindAt, topIn, topOf, startOf, endOf, rest, blocksOf};
+ghost use Rattle.blocks.specs.Stack.{block, kindCode, kindAt, topIn, topOf, startOf, endOf, rest, blocksOf, noBlocks, pushOn, popOff};
 
 // The open blocks: where the name of each starts and ends, and its kind.
 pub struct Blocks {
@@ -21,7 +21,7 @@ pub enum Top {
 }
 
 pub fn no_blocks() -> Blocks
-    ensures { λ r. ⌜ (blocksOf r ≡ []) × (r .depth ≡ 0) ⌝ }
+    ensures { λ r. ⌜ (blocksOf r ≡ []) × (r .depth ≡ 0) × (r ≡ noBlocks) ⌝ }
 {
     Blocks {
         starts: [0; 80],
@@ -64,7 +64,7 @@ fn large(a: u16) -> usize
 
 pub fn push(b: Blocks, k: Kind, x: usize, y: usize) -> Blocks
     requires { ⌜ (b .depth < 80) × (x < 65536) × (y < 65536) ⌝ }
-    ensures { λ r. ⌜ (blocksOf r ≡ block k x y ∷ blocksOf b) × (r .depth ≡ b .depth + 1) ⌝ }
+    ensures { λ r. ⌜ (blocksOf r ≡ block k x y ∷ blocksOf b) × (r .depth ≡ b .depth + 1) × (r ≡ pushOn b k x y) ⌝ }
 {
     let mut r = b;
     let d = b.depth;
@@ -76,7 +76,7 @@ pub fn push(b: Blocks, k: Kind, x: usize, y: usize) -> Blocks
 }
 
 pub fn pop(b: Blocks) -> Blocks
-    ensures { λ r. ⌜ (blocksOf r ≡ rest (blocksOf b)) × (r .depth ≤ b .depth) ⌝ }
+    ensures { λ r. ⌜ (blocksOf r ≡ rest (blocksOf b)) × (r .depth ≤ b .depth) × (r ≡ popOff b) ⌝ }
 {
     let mut r = b;
     if 0 < b.depth {

@@ -1,8 +1,8 @@
 -- What is written for each row is the row's bytes.
 use mathlib.Core.Path.{_≡_, ap, ap₂, sym, subst}
-use mathlib.Core.Bool.{Bool, true}
+use mathlib.Core.Bool.{Bool, true, cond}
 use mathlib.Core.List.{List, [], _∷_, _++_}
-use Prim.Native.Nat.{ℕ, _≤_}
+use Prim.Native.Nat.{ℕ, _-_, _≤_}
 use native.Mathlib.Omega.{arith}
 use lib.Dec.{leb}
 use lib.ListN.{length}
@@ -36,14 +36,14 @@ module _ {row : Row} {x y : List ℕ} {n : ℕ} where
   pub puts-integer : (t : ℕ) {m : Bool} {v : ℕ} → row ≡ rows.Integer m v → bytes 8 t ≡ complement 8 (whole m v) → Wrote (10 ∷ bytes 8 t) x y n → Wrote (table (rowsOf row)) x y n
   puts-integer t h e p = is h (ap (λ (z : List ℕ). 10 ∷ z) e) p
 
-  pub puts-real : (t u : ℕ) {f : Real} → row ≡ rows.Float f → bytes 8 t ≡ complement 8 (whole (f .minus) (f .number)) → bytes 2 u ≡ complement 2 (whole (f .below) (f .power)) →
+  pub puts-real : (t u : ℕ) {f : Real} → row ≡ rows.Float f → bytes 8 t ≡ complement 8 (whole (f .minus) (f .number)) → u ≡ cond (f .below) (65536 - f .power) (f .power) →
       Wrote (11 ∷ (bytes 8 t ++ bytes 2 u)) x y n → Wrote (table (rowsOf row)) x y n
-  puts-real t u h e d p = is h (ap₂ (λ (z w : List ℕ). 11 ∷ (z ++ w)) e d) p
+  puts-real t u h e d p = is h (ap₂ (λ (z w : List ℕ). 11 ∷ (z ++ w)) e (ap (bytes 2) d)) p
 
-  pub puts-moment : (u : ℕ) {f : Moment} → row ≡ rows.Time f → bytes 2 u ≡ complement 2 (whole (f .west) (f .offset)) →
+  pub puts-moment : (u : ℕ) {f : Moment} → row ≡ rows.Time f → u ≡ cond (f .west) (65536 - f .offset) (f .offset) →
       Wrote (12 ∷ f .parts ∷ (bytes 2 (f .year) ++ (f .month ∷ f .day ∷ f .hour ∷ f .minute ∷ f .second ∷ (bytes 4 (f .nanoseconds) ++ bytes 2 u)))) x y n → Wrote (table (rowsOf row)) x y n
   puts-moment u {f} h e p =
-      is h (ap (λ (z : List ℕ). 12 ∷ f .parts ∷ (bytes 2 (f .year) ++ (f .month ∷ f .day ∷ f .hour ∷ f .minute ∷ f .second ∷ (bytes 4 (f .nanoseconds) ++ z)))) e) p
+      is h (ap (λ (z : List ℕ). 12 ∷ f .parts ∷ (bytes 2 (f .year) ++ (f .month ∷ f .day ∷ f .hour ∷ f .minute ∷ f .second ∷ (bytes 4 (f .nanoseconds) ++ z)))) (ap (bytes 2) e)) p
 
   pub puts-unit : {o : Op} {a b v c u : ℕ} {m : Bool} → row ≡ rows.Unit o a b m v → c ≡ opNumber (opOf o) → u ∷ [] ≡ complement 1 (whole m v) →
       Wrote (15 ∷ c ∷ (bytes 2 a ++ (bytes 2 b ++ (u ∷ [])))) x y n → Wrote (table (rowsOf row)) x y n

@@ -1,7 +1,8 @@
 // A number as bytes, high byte first, signed ones in two's complement, at the start of the room that is lent.
 ghost use mathlib.Core.Path.{_≡_};
+ghost use mathlib.Core.Bool.{cond};
 ghost use mathlib.Core.List.{[], _∷_};
-ghost use Prim.Native.Nat.{_≤_};
+ghost use Prim.Native.Nat.{_-_, _≤_};
 ghost use lib.ListN.{length};
 ghost use Rattle.rules.specs.Table.{bytes, complement};
 ghost use Rattle.words.specs.Says.{whole};
@@ -55,7 +56,7 @@ pub fn twos64(minus: bool, v: u64) -> u64
 }
 
 pub fn twos16(minus: bool, v: u16) -> u64
-    ensures { λ r. ⌜ bytes 2 r ≡ complement 2 (whole minus v) ⌝ }
+    ensures { λ r. ⌜ r ≡ cond minus (65536 - v) v ⌝ }
 {
     let n = v as u64;
     if minus {

@@ -1,13 +1,20 @@
--- No second outcome meets the contract of a reading: over one label and one room, the answer and the room's last bytes are decided.
-use Prim.Native.Nat.{ℕ}
-use mathlib.Core.Path.{_≡_, refl, sym, ap, _∙_}
+-- No second outcome meets the contract of a reading: over one label and one room, the answer and the room's last bytes are decided. Of a pass the answer
+-- is, and the room where the table fits it.
+use Prim.Native.Nat.{ℕ, _≤_}
+use native.Mathlib.Omega.{arith}
+use mathlib.Core.Path.{_≡_, refl, sym, ap, ap₂, _∙_}
 use mathlib.Core.Bool.{cond}
-use mathlib.Core.List.{List}
+use mathlib.Core.List.{List, _++_}
 use lib.Dec.{eqb}
+use lib.ListN.{length, drop}
+use Rattle.rules.specs.Data.{Row}
 use Rattle.rules.specs.Modes.{base}
-use Rattle.rules.specs.Reading.{Said, Answered}
-use Rattle.rules.proofs.Reading.Reader.{answered-unique}
+use Rattle.rules.specs.Table.{table}
+use Rattle.rules.specs.Reading.{Said, accepted, refused, read, Answered}
+use Rattle.rules.proofs.Reading.Reader.{reading-unique, answered-unique}
 use Rattle.statements.specs.Answer.{said}
+use Rattle.statements.specs.Passes.{Passed, follows, is-refused, Ran}
+use Rattle.statements.specs.declared.passes.Run.{Run}
 use Rattle.statements.specs.declared.Reading.{Reading}
 use Rattle.statements.specs.declared.Reading.the-variants.{Accepted, TooLong, ForeignByte, LeftOpen, NoForm, PastLimit, Misplaced, OtherName, TooDeep, EndNotSetOff, EndsEarly, NoRoom}
 
@@ -38,3 +45,41 @@ said-once {r} {r′} e = sym (again r) ∙ ap (λ (s : Said). answer (s .code) (
 pub read-once : {label room last last′ : List ℕ} {r r′ : Reading} → Answered base label room (said r) last → Answered base label room (said r′) last′ →
     (r ≡ r′) × (said r ≡ said r′) × (last ≡ last′)
 read-once {label} {room} a b = let u = answered-unique base label room a b in (said-once (u .0), u .0, u .1)
+
+-- ---- one pass
+
+accepted-length : {i n p m : ℕ} → Accepted i n ≡ Accepted p m → n ≡ m
+accepted-length e = cc
+
+not-both : {rows : List Row} {i c i′ : ℕ} → accepted rows i ≡ refused c i′ → ⊥
+not-both e = let z : _≡_ {A = ℕ} 0 1 = cc in omega arith
+
+-- where the table fits the room, the room after is decided
+record Same (before after after′ : List ℕ) (r r′ : Reading) : Type 0 where
+  pub answer : r ≡ r′
+  pub room : (p n : ℕ) → r ≡ Accepted p n → n ≤ length before → after ≡ after′
+
+passed-once : {label before after after′ : List ℕ} {r r′ : Reading} → length label ≤ 65535 → Passed label before after r → Passed label before after′ r′ → Same before after after′ r r′
+passed-once {before = before} s (follows {rows} {i} {n} j c h) (follows {rows = rows′} {i = i′} {n = n′} j′ c′ h′) =
+    let u = reading-unique base (read s j) (read s j′) in
+    let a : rows ≡ rows′ = cc in
+    let b : i ≡ i′ = cc in
+    let d : n ≡ n′ = c ∙ ap (λ (l : List Row). length (table l)) a ∙ sym c′ in
+    record {
+      answer = ap₂ Accepted b d;
+      room = λ p m e f.
+          let g : n ≤ length before = omega (arith, accepted-length e) in
+          h g ∙ ap₂ (λ (l : List Row) (k : ℕ). table l ++ drop k before) a d ∙ sym (h′ (omega arith));
+    }
+passed-once s (follows j c h) (is-refused j′ k q) = absurd (not-both (reading-unique base (read s j) (read s j′)))
+passed-once s (is-refused j k q) (follows j′ c h) = absurd (not-both (reading-unique base (read s j′) (read s j)))
+passed-once s (is-refused {c} {i} j k q) (is-refused {c = c′} {i = i′} j′ k′ q′) =
+    let u = reading-unique base (read s j) (read s j′) in
+    let a : c ≡ c′ = cc in
+    let b : i ≡ i′ = cc in
+    let z = said-once (q ∙ ap₂ (λ (x y : ℕ). record { code = x; place = y; size = 0 }) a b ∙ sym q′) in
+    record { answer = z; room = λ p n e f. absurd (omega (arith, k, sym (ap (λ (s : Said). s .code) q) ∙ ap (λ (r : Reading). said r .code) e)) }
+
+pub pass-once : {label before after after′ : List ℕ} {r r′ : Run} → length label ≤ 65535 → Ran label before after r → Ran label before after′ r′ →
+    (r .reading ≡ r′ .reading) × ((p n : ℕ) → r .reading ≡ Accepted p n → n ≤ length before → after ≡ after′)
+pass-once s a b = let u = passed-once s (a .passed) (b .passed) in (u .answer, u .room)

@@ -24,8 +24,8 @@ use Rattle.elements.specs.declared.Found.the-variants.{Next, Fault, Finish}
 use Rattle.rows.specs.Rows.{rowsOf}
 use Rattle.rows.specs.declared.Row.{Row}
 use Rattle.rows.specs.declared.Row.the-variants as rows
-use Rattle.statements.specs.Passes.{Refusal, Added, Sofar, Reached, Passed, follows, is-refused, Ran}
-use Rattle.steps.specs.States.{stateOf, opensOf, isEnded, Does, Begins}
+use Rattle.statements.specs.Passes.{Refusal, Added, Sofar, Starts, Reached, Passed, follows, is-refused, Ran}
+use Rattle.steps.specs.States.{stateOf, opensOf, isEnded, Does}
 use Rattle.blocks.specs.Stack.{Block, blocksOf, blocksIn}
 use Rattle.statements.specs.Opened.{Sound}
 use Rattle.statements.specs.declared.Reading.{Reading}
@@ -127,19 +127,20 @@ from-start : (label : List ℕ) (t : State) (bs : List Block) (z : Outcome) → 
     Goes base machine.at-statement rule.outside 0 label (onto [] z)
 from-start label t bs z m b g = rw (onto-nil z) (first-statement (rw (m, b) at g))
 
-pub begins : (c : Cursor) → Begins (c .state) → c .blocks .depth ≡ 0 → c .at ≡ 0 → c .n ≡ 0 → (label room : List ℕ) → Reached label room c
-begins c g d p q label room = record {
+pub begins : {c : Cursor} → Starts c → (label room : List ℕ) → Reached label room c
+begins {c} g label room = let d : c .blocks .depth ≡ 0 = ap (λ (b : Blocks). b .depth) (g .blocks) in record {
   rs = [];
   sofar = record {
-    on = λ z x. from-start label (c .state) (blocksOf (c .blocks)) z (g .mode) (none-held (c .blocks .starts) (c .blocks .ends) (c .blocks .kinds) (c .blocks .depth) d) (rw p at x);
+    on = λ z x. from-start label (c .state) (blocksOf (c .blocks)) z (ap (λ (t : State). t .mode) (g .state))
+        (none-held (c .blocks .starts) (c .blocks .ends) (c .blocks .kinds) (c .blocks .depth) d) (rw (g .at) at x);
     within = omega arith;
-    count = q;
+    count = g .n;
     small = omega arith;
   };
-  sound = sound-start (c .state) (c .blocks) g d;
-  going = rw (g .mode);
+  sound = sound-start (c .state) (c .blocks) (g .state) d;
+  going = rw (g .state);
   fits = omega arith;
-  bytes = rw q;
+  bytes = rw (g .n);
 }
 
 -- a reading may go on in another room that begins alike

@@ -4,6 +4,7 @@ use mathlib.Core.Bool.{true, false, true≢false}
 use mathlib.Core.List.{List, [], _∷_}
 use Prim.Native.Nat.{ℕ, _+_, _<_, _≤_}
 use native.Mathlib.Omega.{arith}
+use lib.Dec.{leb}
 use borrow.Author.Tests.{leb-false}
 use types.Run.{OneOf, miss}
 use denote.Enum.Declared.{tagOf, declared}
@@ -21,8 +22,8 @@ use Rattle.rows.specs.declared.Row.the-variants as rows
 use Rattle.rows.specs.declared.Kind as kind
 use Rattle.rows.specs.declared.Kind.the-variants as kinds
 use Rattle.rows.proofs.Row.{enum}
-use Rattle.steps.specs.States.{closing, stateIn, stateOf, opensOf, Does, Settles, isEnded, Effect, stays, opens, ends, effect, said, saidOf, stops, goes, placed, Begins}
-use Rattle.blocks.specs.Stack.{Block, block, rest, many, topOf, blocksOf}
+use Rattle.steps.specs.States.{closing, stateIn, stateOf, opensOf, Does, Settles, isEnded, Effect, stays, opens, closes, ends, effect, said, saidOf, stops, goes, placed, fullIn, isFull, Sees, Field, no-field, its-nest, its-kind, its-op, its-name, onlySet, fieldOf, firstState}
+use Rattle.blocks.specs.Stack.{Block, block, rest, many, topOf, blocksOf, pushOn, popOff}
 use Rattle.statements.specs.Opened.{seeing, Sound}
 use Rattle.steps.specs.declared.Mode.{Mode}
 use Rattle.steps.specs.declared.Mode.the-variants as modes
@@ -84,6 +85,19 @@ none-open [] h = refl
 none-open (block kinds.Object a b ∷ bs) h = absurd (let z : _≡_ {A = ℕ} 0 1 = cc in omega arith)
 none-open (block kinds.Group a b ∷ bs) h = absurd (let z : _≡_ {A = ℕ} 0 1 = cc in omega arith)
 
+-- what a step leaves as it was sees the blocks that were seen
+still-seen : {bs : List Block} (f : Field) (t s : State) → Sees t bs → Sees (onlySet f t s) bs
+still-seen no-field t s v = record { top = v .top; full = v .full }
+still-seen its-nest t s v = record { top = v .top; full = v .full }
+still-seen its-kind t s v = record { top = v .top; full = v .full }
+still-seen its-op t s v = record { top = v .top; full = v .full }
+still-seen its-name t s v = record { top = v .top; full = v .full }
+
+full-seen : (bs : List Block) → fullIn (topOf bs) (leb 80 (many bs)) ≡ leb 80 (many bs)
+full-seen [] = refl
+full-seen (block kinds.Object a b ∷ bs) = refl
+full-seen (block kinds.Group a b ∷ bs) = refl
+
 -- only END leads to the machine's last state
 pub not-end : (label : List ℕ) (m : Mode) (t : State) → isEnded m ≡ false → isEnd (stateIn label m t) ≡ false
 not-end label modes.Statement t h = refl
@@ -117,50 +131,56 @@ pub record Moves (label : List ℕ) (t : State) (b : Blocks) (e : Element) (row 
   pub going : isEnded (t′ .mode) ≡ false
 
 module _ {label : List ℕ} {t : State} {e : Element} {w : Stepped} where
-  settled : {v : Row} → Does label t (stateOf label t) e w → w .row ≡ v → Settles t e (w .state .mode) (effect v)
-  settled d h = subst (λ (x : Row). Settles t e (w .state .mode) (effect x)) h (d .kept .settles)
+  settled : {v : Row} → Does label t (stateOf label t) e w → w .row ≡ v → Settles t e (w .state) (effect v)
+  settled d h = subst (λ (x : Row). Settles t e (w .state) (effect x)) h (d .kept .settles)
 
   pub last-state : {a : ℕ} → Does label t (stateOf label t) e w → w .row ≡ rows.Last a → isEnd (stateOf label (w .state)) ≡ true
-  last-state {a} d h = let z : Settles t e (w .state .mode) ends = settled d h in rw (z .0)
+  last-state {a} d h = let z : Settles t e (w .state) ends = settled d h in rw (z .0)
 
 module _ {label : List ℕ} {t : State} {b : Blocks} {e : Element} {w : Stepped} where
   says : {v : Row} → Does label t (stateOf label t) e w → Sound t b → w .row ≡ v →
       said label (blocksOf b) (w .state) v ≡ placed (placeOf e) (machine.step base strict (stateOf label t) (opensOf label (blocksOf b)) (placedOf label e))
   says d s h = sym (ap (λ (x : Row). said label (blocksOf b) (w .state) x) h) ∙ d .does (blocksOf b) (s .sees)
 
-  still : Does label t (stateOf label t) e w → Sound t b → Sound (w .state) b
-  still d s = record { sees = record { top = d .kept .top ∙ s .sees .top; full = d .kept .full ∙ s .sees .full }; room = d .kept .room (s .room); within = s .within }
+  still : Does label t (stateOf label t) e w → Sound t b → w .state ≡ onlySet (fieldOf (w .state .mode)) t (w .state) → Sound (w .state) b
+  still d s h = record {
+    sees = subst (λ (x : State). Sees x (blocksOf b)) (sym h) (still-seen (fieldOf (w .state .mode)) t (w .state) (s .sees));
+    room = d .kept .room (s .room);
+    within = s .within;
+  }
 
   -- a block that is opened finds room, and is opened by the element's own name
   pub may-push : {k : kind.Kind} {x y : ℕ} → Does label t (stateOf label t) e w → Sound t b → w .row ≡ rows.Open k x y → (b .depth < 80) × (e ≡ Name x y)
   may-push {k} {x} {y} d s h =
-      let z : Settles t e (w .state .mode) (opens k x y) = settled d h in
-      let f : t .full ≡ false = z .1 (s .room) in
+      let z : Settles t e (w .state) (opens k x y) = settled d h in
+      let f : isFull t ≡ false = z .1 (s .room) in
       (omega (arith, leb-false 80 (many (blocksOf b)) (sym (s .sees .full) ∙ f), counted (b .starts) (b .ends) (b .kinds) (b .depth)), z .0)
 
   pub turn-open : {k : kind.Kind} {x y : ℕ} {more : Blocks} {t′ : State} → Does label t (stateOf label t) e w → Sound t b → w .row ≡ rows.Open k x y →
-      (blocksOf more ≡ block k x y ∷ blocksOf b) × (more .depth ≡ b .depth + 1) → t′ ≡ seeing (blocksOf more) (w .state) → Moves label t b e (w .row) t′ more
+      (blocksOf more ≡ block k x y ∷ blocksOf b) × (more .depth ≡ b .depth + 1) × (more ≡ pushOn b k x y) → t′ ≡ seeing (blocksOf more) (w .state) → Moves label t b e (w .row) t′ more
   turn-open {k} {x} {y} {more} d s h p v =
-      let z : Settles t e (w .state .mode) (opens k x y) = settled d h in
+      let z : Settles t e (w .state) (opens k x y) = settled d h in
+      let m : w .state .mode ≡ modes.Statement = ap (λ (q : State). q .mode) (z .2) in
       rw v (record {
-        moves = goes-is (placeOf e) _ (ap (λ (q : machine.State). goes q (opensOf label (blocksOf more)) (rowsOf (w .row))) (seen-open label (blocksOf more) (w .state) (z .2))
+        moves = goes-is (placeOf e) _ (ap (λ (q : machine.State). goes q (opensOf label (blocksOf more)) (rowsOf (w .row))) (seen-open label (blocksOf more) (w .state) m)
             ∙ ap (λ (bs : List Block). goes (stateOf label (w .state)) (opensOf label bs) (rowsOf (w .row))) (p .0)
             ∙ ap (λ (r : Row). goes (stateOf label (w .state)) (opensOf label (block k x y ∷ blocksOf b)) (rowsOf r)) h ∙ says d s h);
-        sound = record { sees = record { top = refl; full = refl }; room = rw (z .2) tt; within = omega (arith, p .1, may-push d s h .0) };
-        going = rw (z .2);
+        sound = record { sees = record { top = refl; full = full-seen (blocksOf more) }; room = rw m tt; within = omega (arith, p .1, may-push d s h .0) };
+        going = rw m;
       })
 
   pub turn-close : {k : kind.Kind} {fewer : Blocks} {t₁ t′ : State} → Does label t (stateOf label t) e w → Sound t b → w .row ≡ rows.Close k →
-      t₁ ≡ closing (blocksOf b) (w .state) → (blocksOf fewer ≡ rest (blocksOf b)) × (fewer .depth ≤ b .depth) → t′ ≡ seeing (blocksOf fewer) t₁ → Moves label t b e (w .row) t′ fewer
+      t₁ ≡ closing (blocksOf b) (w .state) → (blocksOf fewer ≡ rest (blocksOf b)) × (fewer .depth ≤ b .depth) × (fewer ≡ popOff b) → t′ ≡ seeing (blocksOf fewer) t₁ → Moves label t b e (w .row) t′ fewer
   turn-close {k} {fewer} d s h n p v =
-      let z : w .state .mode ≡ modes.Closed = settled d h in
+      let q : Settles t e (w .state) closes = settled d h in
+      let z : w .state .mode ≡ modes.Closed = ap (λ (x : State). x .mode) q in
       let c : State = closing (blocksOf b) (w .state) in
       let y : closing (blocksOf b) (w .state) .mode ≡ modes.Closed = same-mode (blocksOf b) (w .state) ∙ z in
       rw (v, n) (record {
         moves = goes-is (placeOf e) _ (ap (λ (q : machine.State). goes q (opensOf label (blocksOf fewer)) (rowsOf (w .row))) (seen-closed label (blocksOf fewer) (closing (blocksOf b) (w .state)) y)
             ∙ ap (λ (bs : List Block). goes (stateOf label (closing (blocksOf b) (w .state))) (opensOf label bs) (rowsOf (w .row))) (p .0)
             ∙ ap (λ (r : Row). goes (stateOf label (closing (blocksOf b) (w .state))) (opensOf label (rest (blocksOf b))) (rowsOf r)) h ∙ says d s h);
-        sound = record { sees = record { top = refl; full = refl }; room = rw y tt; within = omega (arith, p .1, s .within) };
+        sound = record { sees = record { top = refl; full = full-seen (blocksOf fewer) }; room = rw y tt; within = omega (arith, p .1, s .within) };
         going = rw y;
       })
 
@@ -168,10 +188,11 @@ module _ {label : List ℕ} {t : State} {b : Blocks} {e : Element} {w : Stepped}
       Moves label t b e (w .row) (w .state) b
   turn-plain d s h =
       let f : effect (w .row) ≡ stays = plain-row (w .row) h in
+      let q : Settles t e (w .state) stays = subst (λ (x : Effect). Settles t e (w .state) x) f (d .kept .settles) in
       record {
         moves = goes-is (placeOf e) _ (ap (λ (x : Effect). saidOf label (blocksOf b) (w .state) (rowsOf (w .row)) x) (sym f) ∙ d .does (blocksOf b) (s .sees));
-        sound = still d s;
-        going = subst (λ (x : Effect). Settles t e (w .state .mode) x) f (d .kept .settles);
+        sound = still d s (q .1);
+        going = q .0;
       }
 
   -- the last row: END, outside all blocks
@@ -188,9 +209,10 @@ module _ {label : List ℕ} {t : State} {b : Blocks} {e : Element} {w : Stepped}
       (stops-code (placeOf e) a z, stops-place (placeOf e) a z)
 
 -- no block is open at the start
-pub sound-start : (t : State) (b : Blocks) → Begins t → b .depth ≡ 0 → Sound t b
-sound-start t b g z = record {
-  sees = record { top = g .top ∙ no-top (b .starts) (b .ends) (b .kinds) (b .depth) z; full = g .full ∙ sym (rw (counted (b .starts) (b .ends) (b .kinds) (b .depth), z)) };
-  room = rw (g .mode) tt;
-  within = omega arith;
-}
+pub sound-start : (t : State) (b : Blocks) → t ≡ firstState → b .depth ≡ 0 → Sound t b
+sound-start t b g z =
+    rw g (record {
+      sees = record { top = no-top (b .starts) (b .ends) (b .kinds) (b .depth) z; full = sym (rw (counted (b .starts) (b .ends) (b .kinds) (b .depth), z)) };
+      room = tt;
+      within = omega arith;
+    })

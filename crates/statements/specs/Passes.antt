@@ -10,9 +10,9 @@ use Rattle.rules.specs.Table.{table}
 use Rattle.rules.specs.Reading.{Outcome, accepted, refused, Judged}
 use Rattle.rules.proofs.Grammar.Machine as machine
 use Rattle.rules.proofs.Reading.Reader.{onto, Goes}
-use Rattle.steps.specs.States.{stateOf, opensOf, isEnded}
+use Rattle.steps.specs.States.{stateOf, opensOf, isEnded, firstState}
 use Rattle.steps.specs.declared.State.{State}
-use Rattle.blocks.specs.Stack.{blocksOf}
+use Rattle.blocks.specs.Stack.{blocksOf, noBlocks}
 use Rattle.blocks.specs.declared.Blocks.{Blocks}
 use Rattle.statements.specs.Answer.{said}
 use Rattle.statements.specs.Opened.{Sound}
@@ -39,6 +39,13 @@ pub record Sofar (label : List ℕ) (rs : List rule.Row) (t : State) (b : Blocks
   pub within : at ≤ length label
   pub count : n ≡ length (table rs)
   pub small : n ≤ 15 * at
+
+-- the cursor before the first element
+pub record Starts (c : Cursor) : Type 0 where
+  pub state : c .state ≡ firstState
+  pub blocks : c .blocks ≡ noBlocks
+  pub at : c .at ≡ 0
+  pub n : c .n ≡ 0
 
 -- a reading may go on from the cursor, with the table so far at the room's start
 pub record Reached (label room : List ℕ) (c : Cursor) : Type 0 where

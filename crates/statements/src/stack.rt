@@ -12,7 +12,7 @@ use steps::State;
 ghost use mathlib.Core.Path.{_≡_};
 ghost use Prim.Native.Nat.{_≤_};
 ghost use Rattle.blocks.specs.Stack.{blocksOf};
-ghost use Rattle.steps.specs.States.{closing, Begins};
+ghost use Rattle.steps.specs.States.{closing, firstState};
 ghost use Rattle.statements.specs.Opened.{seeing};
 
 // The state that sees these blocks
@@ -65,7 +65,7 @@ pub fn with_name(t: State, b: Blocks) -> State
 }
 
 pub fn first_state() -> State
-    ensures { λ r. ⌜ Begins r ⌝ }
+    ensures { λ r. ⌜ r ≡ firstState ⌝ }
 {
     State {
         mode: Mode::Statement,

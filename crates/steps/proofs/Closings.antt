@@ -92,7 +92,7 @@ module _ (x y : ℕ) {label : List ℕ} {t : State} {e : Element} {r : Stepped} 
   pub closes-same : e ≡ Name a b → u ≡ take (b - a) (drop a label) → w ≡ take (y - x) (drop x label) → Decides (SameName u w) f → f ≡ true →
       r ≡ moved t modes.Statement rows.Nothing → Does label t (machine.at-closed (nameAt label x y)) e r
   closes-same s p q d h g =
-      known s g (record { top = refl; full = refl; room = λ x. tt; settles = refl })
+      known s g (record { room = λ x. tt; settles = (refl, refl) })
       (λ bs v. ap (λ (z : machine.Next). placed a (machine.judge strict z)) (sym (within-limit (machine.name-discrete (nameAt label a b) (nameAt label x y)) _ _ (same label u w a b x y p q (found d h)))))
 
   pub closes-other : e ≡ Name a b → u ≡ take (b - a) (drop a label) → w ≡ take (y - x) (drop x label) → Decides (SameName u w) f → f ≡ false →

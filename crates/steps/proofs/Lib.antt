@@ -4,3 +4,4 @@ pub mod Ways
 pub mod Modes
 pub mod Starts
 pub mod Closings
+pub mod Once

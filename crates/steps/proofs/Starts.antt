@@ -18,7 +18,7 @@ use Rattle.elements.proofs.Element.{enum}
 use Rattle.steps.proofs.Ways.{known, hits, refused, halts, within-limit, past-limit}
 use Rattle.steps.specs.Signs.{signOf, Word, a-word}
 use Rattle.elements.specs.Next.{placedOf}
-use Rattle.steps.specs.States.{opensOf, Sees, placed, Does, moved, halted, openCode, openingOf}
+use Rattle.steps.specs.States.{opensOf, isFull, Sees, placed, Does, moved, halted, openCode, openingOf}
 use Rattle.blocks.specs.Stack.{Block, block, many}
 use Rattle.elements.specs.declared.Element.{Element}
 use Rattle.elements.specs.declared.Element.the-variants.{Name, The, End, Integer, Based, Float, Time, Text, Symbol}
@@ -46,27 +46,27 @@ deep label (block k a b ∷ bs) = ap suc (deep label bs)
 
 module _ {label : List ℕ} {t : State} {e : Element} {r : Stepped} where
   pub begins-name : {a b : ℕ} → e ≡ Name a b → r ≡ moved t modes.Equals (rows.Attribute a b) → Does label t machine.at-semicolon e r
-  begins-name s g = known s g (record { top = refl; full = refl; room = λ x. tt; settles = refl }) (by-blocks _ (λ v. refl) (λ a b bs v. refl) (λ a b bs v. refl))
+  begins-name s g = known s g (record { room = λ x. tt; settles = (refl, refl) }) (by-blocks _ (λ v. refl) (λ a b bs v. refl) (λ a b bs v. refl))
 
   pub begins-pointer : {c : ℕ} → c ≡ signOf e → c ≡ 94 → r ≡ moved t modes.Pointer rows.Nothing → Does label t machine.at-semicolon e r
-  begins-pointer s k g = hits s k g refl (record { top = refl; full = refl; room = λ x. tt; settles = refl }) (by-blocks _ (λ v. refl) (λ a b bs v. refl) (λ a b bs v. refl))
+  begins-pointer s k g = hits s k g refl (record { room = λ x. tt; settles = (refl, refl) }) (by-blocks _ (λ v. refl) (λ a b bs v. refl) (λ a b bs v. refl))
 
   pub closes-object : {c : ℕ} → c ≡ signOf e → c ≡ 2 → t .top ≡ tops.Object → r ≡ moved t modes.Closed (rows.Close kinds.Object) → Does label t machine.at-semicolon e r
   closes-object s k h g =
-      hits s k g refl (record { top = refl; full = refl; room = λ x. tt; settles = refl })
+      hits s k g refl (record { room = λ x. tt; settles = refl })
       (by-blocks _ (λ v. absurd (let z : _≡_ {A = ℕ} 0 1 = cc (v .top, h) in omega arith)) (λ a b bs v. refl) (λ a b bs v. absurd (let z : _≡_ {A = ℕ} 0 1 = cc (v .top, h) in omega arith)))
 
   pub closes-group : {c : ℕ} → c ≡ signOf e → c ≡ 4 → t .top ≡ tops.Group → r ≡ moved t modes.Closed (rows.Close kinds.Group) → Does label t machine.at-semicolon e r
   closes-group s k h g =
-      hits s k g refl (record { top = refl; full = refl; room = λ x. tt; settles = refl })
+      hits s k g refl (record { room = λ x. tt; settles = refl })
       (by-blocks _ (λ v. absurd (let z : _≡_ {A = ℕ} 0 1 = cc (v .top, h) in omega arith)) (λ a b bs v. absurd (let z : _≡_ {A = ℕ} 0 1 = cc (v .top, h) in omega arith)) (λ a b bs v. refl))
 
 -- ---- the depth
 
-over : {t : State} (label : List ℕ) (bs : List Block) → t .full ≡ true → Sees t bs → depth (opensOf label bs) < 80 → ⊥
+over : {t : State} (label : List ℕ) (bs : List Block) → isFull t ≡ true → Sees t bs → depth (opensOf label bs) < 80 → ⊥
 over label bs f v h = omega (arith, leb-true 80 (many bs) (sym (v .full) ∙ f), deep label bs)
 
-room : {t : State} (label : List ℕ) (bs : List Block) → t .full ≡ false → Sees t bs → depth (opensOf label bs) < 80
+room : {t : State} (label : List ℕ) (bs : List Block) → isFull t ≡ false → Sees t bs → depth (opensOf label bs) < 80
 room label bs f v = omega (arith, leb-false 80 (many bs) (sym (v .full) ∙ f), deep label bs)
 
 at-limit : (n : ℕ) (a b : Next) (d : ℕ) → (d < 80 → ⊥) → placed n (judge strict b) ≡ placed n (judge strict (machine.decided (decLt d 80) a b))
@@ -76,20 +76,24 @@ under : (n : ℕ) (a b : Next) (d : ℕ) → d < 80 → placed n (judge strict a
 under n a b d h = ap (λ (z : Next). placed n (judge strict z)) (sym (within-limit (decLt d 80) a b h))
 
 module _ {label : List ℕ} {t : State} {e : Element} {r : Stepped} where
-  pub opens-too-deep : (k : kind.Kind) → signOf e ≡ openCode k → t .full ≡ true → r ≡ halted t 8 e → Does label t machine.at-semicolon e r
-  opens-too-deep kinds.Object s f g =
-      hits refl s g refl (record { top = refl; full = refl; room = λ x. x; settles = tt })
+  pub opens-too-deep : (k : kind.Kind) {f : Bool} → signOf e ≡ openCode k → f ≡ isFull t → f ≡ true → r ≡ halted t 8 e → Does label t machine.at-semicolon e r
+  opens-too-deep kinds.Object s i h g =
+      let f : isFull t ≡ true = sym i ∙ h in
+      hits refl s g refl (record { room = λ x. x; settles = refl })
       (by-blocks _ (λ v. at-limit _ _ _ _ (over label [] f v)) (λ a b bs v. at-limit _ _ _ _ (over label (block kinds.Object a b ∷ bs) f v)) (λ a b bs v. at-limit _ _ _ _ (over label (block kinds.Group a b ∷ bs) f v)))
-  opens-too-deep kinds.Group s f g =
-      hits refl s g refl (record { top = refl; full = refl; room = λ x. x; settles = tt })
+  opens-too-deep kinds.Group s i h g =
+      let f : isFull t ≡ true = sym i ∙ h in
+      hits refl s g refl (record { room = λ x. x; settles = refl })
       (by-blocks _ (λ v. at-limit _ _ _ _ (over label [] f v)) (λ a b bs v. at-limit _ _ _ _ (over label (block kinds.Object a b ∷ bs) f v)) (λ a b bs v. at-limit _ _ _ _ (over label (block kinds.Group a b ∷ bs) f v)))
 
-  pub opens : {k : kind.Kind} → signOf e ≡ openCode k → t .full ≡ false → r ≡ openingOf t k → Does label t machine.at-semicolon e r
-  opens {k = kinds.Object} s f g =
-      hits refl s g refl (record { top = refl; full = refl; room = λ x. f; settles = refl })
+  pub opens : {k : kind.Kind} {f : Bool} → signOf e ≡ openCode k → f ≡ isFull t → f ≡ false → r ≡ openingOf t k → Does label t machine.at-semicolon e r
+  opens {k = kinds.Object} s i h g =
+      let f : isFull t ≡ false = sym i ∙ h in
+      hits refl s g refl (record { room = λ x. f; settles = (refl, refl) })
       (by-blocks _ (λ v. under _ _ _ _ (room label [] f v)) (λ a b bs v. under _ _ _ _ (room label (block kinds.Object a b ∷ bs) f v)) (λ a b bs v. under _ _ _ _ (room label (block kinds.Group a b ∷ bs) f v)))
-  opens {k = kinds.Group} s f g =
-      hits refl s g refl (record { top = refl; full = refl; room = λ x. f; settles = refl })
+  opens {k = kinds.Group} s i h g =
+      let f : isFull t ≡ false = sym i ∙ h in
+      hits refl s g refl (record { room = λ x. f; settles = (refl, refl) })
       (by-blocks _ (λ v. under _ _ _ _ (room label [] f v)) (λ a b bs v. under _ _ _ _ (room label (block kinds.Object a b ∷ bs) f v)) (λ a b bs v. under _ _ _ _ (room label (block kinds.Group a b ∷ bs) f v)))
 
 -- ---- words that do not begin a statement there
@@ -154,7 +158,7 @@ module _ {label : List ℕ} {t : State} {e : Element} {r : Stepped} where
 
   pub ends-set-off : {off : Bool} {a b : ℕ} → e ≡ End off a b → t .top ≡ tops.Outside → off ≡ true → r ≡ moved t modes.Ended (rows.Last b) → Does label t machine.at-semicolon e r
   ends-set-off s h o g =
-      known (rw o at s) g (record { top = refl; full = refl; room = λ x. tt; settles = (refl, h) })
+      known (rw o at s) g (record { room = λ x. tt; settles = (refl, h) })
       (by-blocks _ (λ v. refl) (λ a b bs v. absurd (let z : _≡_ {A = ℕ} 0 1 = cc (v .top, h) in omega arith)) (λ a b bs v. absurd (let z : _≡_ {A = ℕ} 0 1 = cc (v .top, h) in omega arith)))
 
   pub ends-loose : {off : Bool} {a b : ℕ} → e ≡ End off a b → t .top ≡ tops.Outside → off ≡ false → r ≡ halted t 9 (End off a b) → Does label t machine.at-semicolon e r

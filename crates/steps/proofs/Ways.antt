@@ -17,8 +17,8 @@ use denote.Enum.Declared.{tagOf, declared}
 use Rattle.elements.proofs.Element.{enum}
 use Rattle.steps.specs.Signs.{signOf, codeOf}
 use Rattle.elements.specs.Next.{placeOf, placedOf, span}
-use Rattle.rows.specs.Rows.{opOf, rowsOf}
-use Rattle.steps.specs.States.{opensOf, Sees, said, effect, stays, goes, Kept, placed, Does, followingIn, moved, halted, stateIn, placeIn, stops, Room, roomIn, isEnded}
+use Rattle.rows.specs.Rows.{kindOf, opOf, rowsOf}
+use Rattle.steps.specs.States.{opensOf, Sees, said, effect, stays, goes, Kept, placed, Does, followingIn, moved, halted, stateIn, placeIn, stops, isFull, Room, roomIn, isEnded, fieldOf, onlySet, inMode}
 use Rattle.blocks.specs.Stack.{Block}
 use Rattle.elements.specs.declared.Element.{Element}
 use Rattle.elements.specs.declared.Element.the-variants.{Name, The, End, Integer, Based, Float, Time, Text, Symbol}
@@ -52,7 +52,7 @@ module _ {label : List ℕ} {t : State} {q : machine.State} {e : Element} {r : S
   hits {n = n} s k g p i h = shown g i (λ bs v. rw (hit (offers base q (opensOf label bs)) label e n (sym s ∙ k) p) (h bs v))
 
   pub refused : r ≡ halted t 6 e → ((bs : List Block) → Sees t bs → dispatch (offers base q (opensOf label bs)) (placedOf label e) ≡ never) → Does label t q e r
-  refused g h = shown g (record { top = refl; full = refl; room = λ x. x; settles = tt }) (λ bs v. rw (h bs v))
+  refused g h = shown g (record { room = λ x. x; settles = refl }) (λ bs v. rw (h bs v))
 
   -- none of the entries, where only they are taken
   pub misses : {c : ℕ} → c ≡ signOf e → r ≡ halted t 6 e → Avoids c (keys (offers base q rule.outside .fixed)) →
@@ -117,7 +117,7 @@ module _ {label : List ℕ} {t : State} {q q′ : machine.State} {e : Element} {
 
 -- ---- the scalar is done
 
--- what follows it is the machine's own, asks no room, and is not the end
+-- what follows it is the machine's own, asks no room, is not the end, and sets the mode alone
 follows : (label : List ℕ) (t : State) (n : nest.Nest) → stateIn label (followingIn n) t ≡ machine.after (placeIn n)
 follows label t nests.Alone = refl
 follows label t nests.Sequence = refl
@@ -136,13 +136,19 @@ follows-going nests.Sequence = refl
 follows-going nests.Row = refl
 follows-going nests.Set = refl
 
+follows-set : (t : State) (n : nest.Nest) → inMode t (followingIn n) ≡ onlySet (fieldOf (followingIn n)) t (inMode t (followingIn n))
+follows-set t nests.Alone = refl
+follows-set t nests.Sequence = refl
+follows-set t nests.Row = refl
+follows-set t nests.Set = refl
+
 module _ {label : List ℕ} {t : State} {q : machine.State} {e : Element} {r : Stepped} {row : Row} where
   -- the general way: a row that leaves the blocks alone
   done : r ≡ moved t (followingIn (t .nest)) row → effect row ≡ stays →
       ((bs : List Block) → goes (machine.after (placeIn (t .nest))) (opensOf label bs) (rowsOf row) ≡ placed (placeOf e) (judge strict (dispatch (offers base q (opensOf label bs)) (placedOf label e)))) →
       Does label t q e r
   done g k h =
-      shown g (record { top = refl; full = refl; room = λ x. follows-room (t .nest) (t .full); settles = rw k (follows-going (t .nest)) })
+      shown g (record { room = λ x. follows-room (t .nest) (isFull t); settles = rw k (follows-going (t .nest), follows-set t (t .nest)) })
       (λ bs v. rw (k, follows label (moved t (followingIn (t .nest)) row .state) (t .nest)) (h bs))
 
   -- by an element that is known
@@ -189,7 +195,7 @@ after-end {label} {e = e} g = refused g (λ bs v. nothing label e)
 -- a refusal at a known element
 pub halts : {label : List ℕ} {t : State} {q : machine.State} {e v : Element} {r : Stepped} {c : ℕ} → e ≡ v → r ≡ halted t c v →
     ((bs : List Block) → Sees t bs → stops c (placeOf v) ≡ placed (placeOf v) (step base strict q (opensOf label bs) (placedOf label v))) → Does label t q e r
-halts s g h = known s g (record { top = refl; full = refl; room = λ x. x; settles = tt }) h
+halts s g h = known s g (record { room = λ x. x; settles = refl }) h
 
 pub too-large : {label : List ℕ} {t : State} {c : machine.Place} {p : rule.Op} {x : rule.Span} {e : Element} {r : Stepped} {m : Bool} {n a b : ℕ} →
     e ≡ Integer m n a b → 99 < n → r ≡ halted t 5 (Integer m n a b) → Does label t (machine.at-exponent c p x) e r
@@ -198,12 +204,23 @@ too-large {n = n} {a = a} s h g = halts s g (λ bs v. ap (λ (z : Next). placed 
 pub in-limit : {label : List ℕ} {t : State} {e : Element} {r : Stepped} {m : Bool} {n a b : ℕ} →
     e ≡ Integer m n a b → n ≤ 99 → r ≡ moved t modes.AfterExponent (rows.Unit (t .op) (t .from) (t .upto) m n) →
     Does label t (machine.at-exponent (placeIn (t .nest)) (opOf (t .op)) (span (t .from) (t .upto))) e r
-in-limit {n = n} {a = a} s h g = known s g (record { top = refl; full = refl; room = λ x. tt; settles = refl }) (λ bs v. ap (λ (z : Next). placed a (judge strict z)) (sym (within-limit (decLe n 99) _ _ h)))
+in-limit {n = n} {a = a} s h g = known s g (record { room = λ x. tt; settles = (refl, refl) }) (λ bs v. ap (λ (z : Next). placed a (judge strict z)) (sym (within-limit (decLe n 99) _ _ h)))
 
-pub still-room : (t : State) → t .mode ≡ modes.BlockEquals → Room t → t .full ≡ false
-still-room t h x = subst (λ (m : Mode). roomIn m (t .full)) h x
+-- ---- a block is being opened, and there is room for it
 
-pub has-room : (t : State) → t .mode ≡ modes.BlockName → Room t → t .full ≡ false
-has-room t h x = subst (λ (m : Mode). roomIn m (t .full)) h x
+in-room : (t : State) {m : Mode} → t .mode ≡ m → Room t → roomIn m (isFull t)
+in-room t h x = subst (λ (m : Mode). roomIn m (isFull t)) h x
 
-pub ruleset ways = (known, hits, misses, no-name, no-whole, passes, passes2, scalar-known, scalar-signed, no-scalar, after-end, too-large, in-limit, still-room, has-room, needs)
+pub opener-equals : {label : List ℕ} {t : State} {e : Element} {r : Stepped} {c : ℕ} → t .mode ≡ modes.BlockEquals → c ≡ signOf e → c ≡ 61 → r ≡ moved t modes.BlockName rows.Nothing →
+    Does label t (machine.at-opener (kindOf (t .kind))) e r
+opener-equals {t = t} h s k g = hits s k g refl (record { room = in-room t h; settles = (refl, refl) }) (λ bs v. refl)
+
+pub opened-name : {label : List ℕ} {t : State} {e : Element} {r : Stepped} {a b : ℕ} → t .mode ≡ modes.BlockName → e ≡ Name a b → r ≡ moved t modes.Statement (rows.Open (t .kind) a b) →
+    Does label t (machine.at-opened (kindOf (t .kind))) e r
+opened-name {t = t} h s g = known s g (record { room = λ x. tt; settles = (s, in-room t h, refl) }) (λ bs v. refl)
+
+pub ruleset ways = (known, hits, misses, no-name, no-whole, passes, passes2, scalar-known, scalar-signed, no-scalar, after-end, too-large, in-limit, needs)
+
+pub ruleset openings = (opener-equals, opened-name, misses, no-name, needs)
+
+pub ruleset unmet = (misses, needs)

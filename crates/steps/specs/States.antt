@@ -1,9 +1,9 @@
 -- What the code's states, open blocks and rows mean in the rules' machine, and what a step says.
 use Prim.Native.Nat.{ℕ, suc}
 use mathlib.Core.Path.{_≡_}
-use mathlib.Core.Bool.{Bool, true, false}
+use mathlib.Core.Bool.{Bool, true, false, cond}
 use mathlib.Core.List.{List, [], _∷_}
-use lib.Dec.{leb}
+use lib.Dec.{leb, eqb}
 use Rattle.rules.specs.Data as rule
 use Rattle.rules.specs.Modes.{base}
 use Rattle.rules.specs.Grammar.{strict}
@@ -15,6 +15,7 @@ use Rattle.rows.specs.Rows.{kindOf, opOf, rowsOf}
 use Rattle.rows.specs.declared.Kind as kind
 use Rattle.rows.specs.declared.Kind.the-variants as kinds
 use Rattle.rows.specs.declared.Op as op
+use Rattle.rows.specs.declared.Op.the-variants as ops
 use Rattle.rows.specs.declared.Row.{Row}
 use Rattle.rows.specs.declared.Row.the-variants as rows
 use Rattle.blocks.specs.Stack.{Block, block, many, topOf, rest}
@@ -80,10 +81,19 @@ abbrev pub opensOf : List ℕ → List Block → rule.Opens
 opensOf label [] = rule.outside
 opensOf label (block k a b ∷ bs) = rule.inside (kindOf k) (nameAt label a b) (opensOf label bs)
 
+-- whether as many are open as may be: outside all blocks none is, whatever `full` holds, so every state sees some blocks
+abbrev pub fullIn : top.Top → Bool → Bool
+fullIn tops.Outside full = false
+fullIn tops.Object full = full
+fullIn tops.Group full = full
+
+abbrev pub isFull : State → Bool
+isFull t = fullIn (t .top) (t .full)
+
 -- what the state knows of them
 pub record Sees (t : State) (bs : List Block) : Type 0 where
   pub top : t .top ≡ topOf bs
-  pub full : t .full ≡ leb 80 (many bs)
+  pub full : isFull t ≡ leb 80 (many bs)
 
 -- ---- what a step says
 
@@ -162,7 +172,7 @@ roomIn modes.AfterRow full = Unit {0}
 roomIn modes.Ended full = Unit {0}
 
 abbrev pub Room : State → Type 0
-Room t = roomIn (t .mode) (t .full)
+Room t = roomIn (t .mode) (isFull t)
 
 abbrev pub isEnded : Mode → Bool
 isEnded modes.Statement = false
@@ -187,21 +197,59 @@ isEnded modes.AfterExponent = false
 isEnded modes.AfterRow = false
 isEnded modes.Ended = true
 
--- a block is opened by the name that is the element, where there is room, and a statement follows it; the last row stands outside all blocks,
--- and END comes with no other row
-abbrev pub Settles : State → Element → Mode → Effect → Type 0
-Settles t e m stays = isEnded m ≡ false
-Settles t e m (opens k a b) = (e ≡ Name a b) × (Room t → t .full ≡ false) × (m ≡ modes.Statement)
-Settles t e m closes = m ≡ modes.Closed
-Settles t e m ends = (m ≡ modes.Ended) × (t .top ≡ tops.Outside)
-Settles t e m (halts c p) = Unit {0}
+-- ---- what a step leaves as it was
 
--- What the state knows of the blocks is left as it was: whoever opens or closes one sees to that.
+-- what a step may set besides the mode: nothing, what a scalar is a member of, the kind of a block, an operator, or a unit's name
+pub data Field : Type 0 where
+  no-field its-nest its-kind its-op its-name : Field
+
+abbrev pub fieldOf : Mode → Field
+fieldOf modes.Statement = no-field
+fieldOf modes.Equals = no-field
+fieldOf modes.Pointer = no-field
+fieldOf modes.BlockEquals = its-kind
+fieldOf modes.BlockName = no-field
+fieldOf modes.Closed = no-field
+fieldOf modes.ClosingName = no-field
+fieldOf modes.Value = its-nest
+fieldOf modes.Member = its-nest
+fieldOf modes.FirstMember = its-nest
+fieldOf modes.FirstOfSet = its-nest
+fieldOf modes.AfterNumber = no-field
+fieldOf modes.InSequence = no-field
+fieldOf modes.InRow = no-field
+fieldOf modes.InSet = no-field
+fieldOf modes.UnitName = its-op
+fieldOf modes.AfterUnit = its-name
+fieldOf modes.Exponent = no-field
+fieldOf modes.AfterExponent = no-field
+fieldOf modes.AfterRow = no-field
+fieldOf modes.Ended = no-field
+
+-- the state t with the mode and that field of s: all else is as it was, what is known of the open blocks too, since whoever opens or closes
+-- one sees to that
+abbrev pub onlySet : Field → State → State → State
+onlySet no-field t s = record { mode = s .mode; nest = t .nest; kind = t .kind; op = t .op; top = t .top; full = t .full; from = t .from; upto = t .upto }
+onlySet its-nest t s = record { mode = s .mode; nest = s .nest; kind = t .kind; op = t .op; top = t .top; full = t .full; from = t .from; upto = t .upto }
+onlySet its-kind t s = record { mode = s .mode; nest = t .nest; kind = s .kind; op = t .op; top = t .top; full = t .full; from = t .from; upto = t .upto }
+onlySet its-op t s = record { mode = s .mode; nest = t .nest; kind = t .kind; op = s .op; top = t .top; full = t .full; from = t .from; upto = t .upto }
+onlySet its-name t s = record { mode = s .mode; nest = t .nest; kind = t .kind; op = t .op; top = t .top; full = t .full; from = s .from; upto = s .upto }
+
+abbrev pub inMode : State → Mode → State
+inMode t m = record { mode = m; nest = t .nest; kind = t .kind; op = t .op; top = t .top; full = t .full; from = t .from; upto = t .upto }
+
+-- A block is opened by the name that is the element, where there is room, and a statement follows it; the last row stands outside all blocks,
+-- and END comes with no other row; a refusal leaves the state.
+abbrev pub Settles : State → Element → State → Effect → Type 0
+Settles t e s stays = (isEnded (s .mode) ≡ false) × (s ≡ onlySet (fieldOf (s .mode)) t s)
+Settles t e s (opens k a b) = (e ≡ Name a b) × (Room t → isFull t ≡ false) × (s ≡ inMode t modes.Statement)
+Settles t e s closes = s ≡ inMode t modes.Closed
+Settles t e s ends = (s ≡ inMode t modes.Ended) × (t .top ≡ tops.Outside)
+Settles t e s (halts c p) = s ≡ t
+
 pub record Kept (t : State) (e : Element) (r : Stepped) : Type 0 where
-  pub top : r .state .top ≡ t .top
-  pub full : r .state .full ≡ t .full
   pub room : Room t → Room (r .state)
-  pub settles : Settles t e (r .state .mode) (effect (r .row))
+  pub settles : Settles t e (r .state) (effect (r .row))
 
 -- The step that gave r, in the state t over the element e, is the machine's step in the state q, whatever the open blocks are that t sees.
 pub record Does (label : List ℕ) (t : State) (q : machine.State) (e : Element) (r : Stepped) : Type 0 where
@@ -209,18 +257,37 @@ pub record Does (label : List ℕ) (t : State) (q : machine.State) (e : Element)
   pub does : (bs : List Block) → Sees t bs →
       said label bs (r .state) (r .row) ≡ placed (placeOf e) (machine.step base strict q (opensOf label bs) (placedOf label e))
 
--- The element e is met in the mode m: a step that does what m asks does what the state t asks. If m opens a block, it is t's own mode; if it is one whose sign can be left out, e is that sign.
-pub record MetIn (t : State) (e : Element) (m : Mode) : Type 0 where
-  pub stands : (label : List ℕ) (r : Stepped) → Does label t (stateIn label m t) e r → Does label t (stateOf label t) e r
-  pub opener : m ≡ modes.BlockEquals → t .mode ≡ modes.BlockEquals
-  pub opened : m ≡ modes.BlockName → t .mode ≡ modes.BlockName
-  pub equals : m ≡ modes.Closed → signOf e ≡ 61
-  pub less : m ≡ modes.AfterNumber → signOf e ≡ 60
+-- The mode that an element of the number c is met in: a number need not have a unit, nor the word that closes a block a name.
+abbrev pub metIn : Mode → nest.Nest → ℕ → Mode
+metIn modes.Statement n c = modes.Statement
+metIn modes.Equals n c = modes.Equals
+metIn modes.Pointer n c = modes.Pointer
+metIn modes.BlockEquals n c = modes.BlockEquals
+metIn modes.BlockName n c = modes.BlockName
+metIn modes.Closed n c = cond (eqb c 61) modes.Closed modes.Statement
+metIn modes.ClosingName n c = modes.ClosingName
+metIn modes.Value n c = modes.Value
+metIn modes.Member n c = modes.Member
+metIn modes.FirstMember n c = modes.FirstMember
+metIn modes.FirstOfSet n c = modes.FirstOfSet
+metIn modes.AfterNumber n c = cond (eqb c 60) modes.AfterNumber (followingIn n)
+metIn modes.InSequence n c = modes.InSequence
+metIn modes.InRow n c = modes.InRow
+metIn modes.InSet n c = modes.InSet
+metIn modes.UnitName n c = modes.UnitName
+metIn modes.AfterUnit n c = modes.AfterUnit
+metIn modes.Exponent n c = modes.Exponent
+metIn modes.AfterExponent n c = modes.AfterExponent
+metIn modes.AfterRow n c = modes.AfterRow
+metIn modes.Ended n c = modes.Ended
+
+pub record Met (t : State) (e : Element) (m : Mode) : Type 0 where
+  pub is : m ≡ metIn (t .mode) (t .nest) (signOf e)
 
 -- ---- the answers that the code makes
 
 abbrev pub moved : State → Mode → Row → Stepped
-moved t m row = record { state = record { mode = m; nest = t .nest; kind = t .kind; op = t .op; top = t .top; full = t .full; from = t .from; upto = t .upto }; row = row }
+moved t m row = record { state = inMode t m; row = row }
 
 abbrev pub within : State → Mode → nest.Nest → Row → Stepped
 within t m n row = record { state = record { mode = m; nest = n; kind = t .kind; op = t .op; top = t .top; full = t .full; from = t .from; upto = t .upto }; row = row }
@@ -238,7 +305,5 @@ abbrev pub halted : State → ℕ → Element → Stepped
 halted t c e = record { state = t; row = rows.Stop c (placeOf e) }
 
 -- the state that a reading begins with
-pub record Begins (t : State) : Type 0 where
-  pub mode : t .mode ≡ modes.Statement
-  pub top : t .top ≡ tops.Outside
-  pub full : t .full ≡ false
+abbrev pub firstState : State
+firstState = record { mode = modes.Statement; nest = nests.Alone; kind = kinds.Object; op = ops.First; top = tops.Outside; full = false; from = 0; upto = 0 }

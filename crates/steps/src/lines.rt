@@ -21,7 +21,7 @@ ghost use Rattle.rules.proofs.Grammar.Machine.{at-semicolon, at-equals, at-poin
 ghost use Rattle.elements.specs.Next.{nameAt};
 ghost use Rattle.rows.specs.Rows.{kindOf};
 ghost use Rattle.steps.specs.Signs.{signOf, Word};
-ghost use Rattle.steps.specs.States.{placeIn, openCode, Does};
+ghost use Rattle.steps.specs.States.{placeIn, openCode, isFull, Does};
 
 pub fn at_equals(label: &[u8], t: State, e: Element) -> Stepped
     ensures { λ r. ⌜ Does (now (label .entry)) t at-equals e r ⌝ }
@@ -64,13 +64,24 @@ pub fn block_name(label: &[u8], t: State, e: Element) -> Stepped
     awaiting(t, Mode::Statement, Row::Open(kind, a, b))
 }
 
+// Whether as many blocks are open as may be: outside all blocks none is.
+fn is_full(t: State) -> bool
+    ensures { λ r. ⌜ r ≡ isFull t ⌝ }
+{
+    let top = t.top;
+    match top {
+        Top::Outside => false,
+        Top::Object => t.full,
+        Top::Group => t.full,
+    }
+}
+
 // OBJECT or GROUP
 pub fn open_word(label: &[u8], t: State, k: Kind, e: Element) -> Stepped
     requires { ⌜ signOf e ≡ openCode k ⌝ }
     ensures { λ r. ⌜ Does (now (label .entry)) t at-semicolon e r ⌝ }
 {
-    let full = t.full;
-    if full {
+    if is_full(t) {
         return refuse(t, 8, e);
     }
     opening(t, k)

@@ -12,7 +12,7 @@ ghost use mathlib.Core.Path.{_≡_};
 ghost use Prim.Native.Nat.{_-_};
 ghost use Rattle.elements.specs.Next.{placeOf};
 ghost use Rattle.steps.specs.Signs.{signOf, wordCode};
-ghost use Rattle.steps.specs.States.{followingIn, MetIn, moved, within, halted, unitNext, unitNamed, openingOf};
+ghost use Rattle.steps.specs.States.{followingIn, Met, moved, within, halted, unitNext, unitNamed, openingOf};
 
 fn less_one(a: usize) -> usize
     ensures { λ r. ⌜ r ≡ a - 1 ⌝ }
@@ -215,7 +215,7 @@ pub fn scalar_done(t: State, row: Row) -> Stepped
 // is not the sign of one is met as what follows without it. With that told here, what follows is a mode like any other and its
 // function has one caller: one with several is kept out of line, and the state then goes through memory at each element.
 pub fn settled(t: State, e: Element) -> Mode
-    ensures { λ m. ⌜ MetIn t e m ⌝ }
+    ensures { λ m. ⌜ Met t e m ⌝ }
 {
     let mode = t.mode;
     match mode {

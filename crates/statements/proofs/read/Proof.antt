@@ -1,6 +1,7 @@
 -- The reader: each way out, from the first pass and, where its room was too short, from the second.
 use native.Mathlib.Omega.{arith}
 use Rattle.statements.proofs.Answers.{not-read-long, carried, refusal-stands, short, copied, resumed}
+use Rattle.statements.proofs.Running.{begins}
 use borrow.Author.Needs.{needs}
 use Rattle.statements.proofs.read.Statement.{statement}
 use Rattle.statements.proofs.read.Tie as tie
@@ -9,7 +10,7 @@ returns : tie.Need-returns
 returns c = not-read-long _ _ (c .if1 .taken)
 
 pass-requires : tie.Need-pass-requires
-pass-requires c κs = (c .before .before .if1 .left, c .start .ensures _ _)
+pass-requires c κs = (c .before .before .if1 .left, begins (c .start .ensures) _ _)
 
 returns-2 : tie.Need-returns-2
 returns-2 c = refusal-stands (c .before .before .before .before .before .before .before .before .args .table .now) (c .before .before .before .before .before .if1 .left) (c .before .before .pass .ensures .passed) (c .match .keys2)

@@ -1,5 +1,5 @@
 -- A reading begins with no rows, in no block.
-use Rattle.statements.proofs.Running.{begins}
+use mathlib.Core.Path.{_∙_}
 use borrow.Author.Needs.{needs}
 use Rattle.statements.proofs.cursor.start.Statement.{statement}
 use Rattle.statements.proofs.cursor.start.Tie as tie
@@ -7,7 +7,7 @@ use Rattle.statements.proofs.cursor.start.Tie as tie
 returns : tie.Need-returns
 returns c =
     let e = c .standing .ensures in
-    begins (c .standing .result) (rw (e .0) (c .before .before .first-state .ensures)) (rw (e .1) (c .before .no-blocks .ensures .1)) (e .2) (e .3)
+    record { state = e .0 ∙ c .before .before .first-state .ensures; blocks = e .1 ∙ c .before .no-blocks .ensures .2; at = e .2; n = e .3 }
 
 pub start-spec : {M : Type 1} → statement M
 start-spec =

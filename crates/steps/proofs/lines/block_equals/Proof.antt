@@ -1,5 +1,5 @@
 -- `lines::block_equals` meets its contract.
-use Rattle.steps.proofs.Ways.{ways}
+use Rattle.steps.proofs.Ways.{openings}
 use borrow.Author.Needs.{needs}
 use Rattle.steps.proofs.lines.block_equals.Statement.{statement}
 use Rattle.steps.proofs.lines.block_equals.Tie as tie
@@ -10,6 +10,6 @@ block-equals-spec =
     (tie.spec
     (λ c κs. search needs)
     (λ c κs. search needs)
-    (λ c. search ways)
+    (λ c. search openings)
     (λ c κs. search needs)
-    (λ c. search ways))
+    (λ c. search openings))

@@ -1,5 +1,5 @@
 -- `lines::block_name` meets its contract.
-use Rattle.steps.proofs.Ways.{ways}
+use Rattle.steps.proofs.Ways.{openings}
 use borrow.Author.Needs.{needs}
 use Rattle.steps.proofs.lines.block_name.Statement.{statement}
 use Rattle.steps.proofs.lines.block_name.Tie as tie
@@ -10,6 +10,6 @@ block-name-spec =
     (tie.spec
     (λ c. search needs)
     (λ c κs. search needs)
-    (λ c. search ways)
+    (λ c. search openings)
     (λ c κs. search needs)
-    (λ c. search ways))
+    (λ c. search openings))

@@ -9,6 +9,7 @@ open-word-spec =
     tie.close
     (tie.spec
     (λ c κs. search needs)
+    (λ c κs. search needs)
     (λ c. search begins)
     (λ c κs. search needs)
     (λ c. search begins))

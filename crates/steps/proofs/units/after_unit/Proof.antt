@@ -1,5 +1,5 @@
 -- `units::after_unit` meets its contract.
-use Rattle.steps.proofs.Ways.{ways}
+use Rattle.steps.proofs.Ways.{ways, unmet}
 use borrow.Author.Needs.{needs}
 use Rattle.steps.proofs.units.after_unit.Statement.{statement}
 use Rattle.steps.proofs.units.after_unit.Tie as tie
@@ -18,4 +18,4 @@ after-unit-spec =
     (λ c κs. search needs)
     (λ c. search ways)
     (λ c κs. search needs)
-    (λ c. search ways))
+    (λ c. search unmet))

@@ -15,10 +15,10 @@ returns-3 : tie.Need-returns-3
 returns-3 c = far-end _ _ _ _ _ (c .before .before .before .before .before .row .given .1) (c .before .before .before .before .before .before .before .pre) (c .if3 .taken)
 
 returns-4 : tie.Need-returns-4
-returns-4 c = pushes _ _ _ _ _ _ (c .before .before .before .before .before .before .row .given .1) (omega (arith, c .before .before .before .if1 .left)) (c .push .ensures)
+returns-4 c = pushes _ _ _ _ _ _ (c .before .before .before .before .before .before .row .given .1) (omega (arith, c .before .before .before .if1 .left)) (c .push .ensures .0, c .push .ensures .1)
 
 returns-5 : tie.Need-returns-5
-returns-5 c = pops _ _ _ _ (c .before .enum-told .given .1) (c .before .before .before .pre) (c .pop .ensures)
+returns-5 c = pops _ _ _ _ (c .before .enum-told .given .1) (c .before .before .before .pre) (c .pop .ensures .0, c .pop .ensures .1)
 
 returns-6 : tie.Need-returns-6
 returns-6 c = others _ _ (c .before .pre) (c .match .keys3)

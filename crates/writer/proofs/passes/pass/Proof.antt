@@ -15,7 +15,7 @@ abbrev μ-loop : tie.MeasureT-loop
 μ-loop label lent out₀ q₀ b₀ from₀ upto₀ at₀ n₀ t14 out q b from upto at n = length lent - at
 
 loop-holds : tie.Need-loop-holds Inv-loop μ-loop
-loop-holds c = begins _ _ _ _ (c .before .before .before .before .pre .0) (c .before .before .before .before .pre .1) (c .no-blocks .ensures)
+loop-holds c = begins _ _ _ _ (c .before .before .before .before .pre .0) (c .before .before .before .before .pre .1) (c .no-blocks .ensures .0, c .no-blocks .ensures .1)
 
 put-row-requires : tie.Need-put-row-requires Inv-loop μ-loop
 put-row-requires c κs = (c .before .before .before .before .loop .inv .walking .deep, c .before .before .before .before .loop .inv .walking .short)
