@@ -31,7 +31,7 @@ use Rattle.table.specs.declared.Nest.the-variants as nests
 use Rattle.table.specs.declared.Await.{Await}
 use Rattle.table.specs.declared.Await.the-variants.{Nothing, After, Number, Units, Value, First, SetFirst, InRow, Rows, End}
 use Rattle.table.specs.declared.Checked.the-variants.{Proper, Improper}
-use Rattle.table.proofs.Awaited.{opens-none, nested-kinds, step-law, object-room, group-room}
+use Rattle.table.proofs.Awaited.{opens-none, step-law, object-room, group-room}
 
 pub both-good : (label : List ℕ) (rs : List rule.Row) (v s : Bool) → v ≡ passes valueTest rs → s ≡ passes (spanTest label) rs → (v && s) ≡ (passes valueTest rs && passes (spanTest label) rs)
 both-good label rs v s e f = rw (e, f)
@@ -149,7 +149,7 @@ module _ (label lent : List ℕ) (l : length label ≤ 65535) where
   turn-on t u b b′ at next n x y w i k z m c [] d h e = absurd (false≢true h)
   turn-on t u b b′ at next n x y w i k z m c (r ∷ rs) d h e =
       let to-u : toOf (kindsOf b) n (nextOf t n x (leb 80 (b .depth))) ≡ to (awaitOf u) (kindsOf b′) =
-      ap (toOf (kindsOf b) n) (sym k) ∙ ap (λ (y : Bool). cond y to-none (to (awaitOf u) (opensAfter n (kindsOf b)))) z ∙ ap (to (awaitOf u)) (sym (nested-kinds m)) in
+      ap (toOf (kindsOf b) n) (sym k) ∙ ap (λ (y : Bool). cond y to-none (to (awaitOf u) (opensAfter n (kindsOf b)))) z ∙ ap (to (awaitOf u)) (sym (m .is)) in
       let fine : Fine label (awaitOf t) (kindsOf b) r (awaitOf u) (kindsOf b′) = record {
         value = value-decides r .1 (and-left (valueTest r) (spanTest label r) h);
         holds = span-decides label r .1 (and-right (valueTest r) (spanTest label r) h);

@@ -15,9 +15,7 @@ use Rattle.rows.specs.declared.Kind.the-variants as kinds
 use Rattle.rows.specs.declared.Op.the-variants as ops
 use Rattle.rows.specs.declared.Row.{Row}
 use Rattle.rows.specs.declared.Row.the-variants as rows
-use Rattle.blocks.specs.Stack.{many, blocksOf}
 use Rattle.blocks.specs.declared.Blocks.{Blocks}
-use Rattle.blocks.proofs.Opened.{counted}
 use Rattle.table.specs.Decoding.{Field, Byte, decodedOf, Body, Reads, rowIn, gotAt}
 use Rattle.table.specs.Ordering.{Nesting}
 use Rattle.table.specs.Judging.{Judges, proper, improper, said, verdictSaid}
@@ -90,14 +88,8 @@ row-at-length {lent} {at} {g} r s x h c e = go (rowsOf (g .row)) (sym (ap decode
 
 -- ---- blocks
 
-depth-many : (b : Blocks) → many (blocksOf b) ≡ b .depth
-depth-many b = counted (b .starts) (b .ends) (b .kinds) (b .depth)
-
--- the open blocks; the arrays' places past them are not read
-pub nested-once : {n : ℕ} {b r r′ : Blocks} → Nesting n b r → Nesting n b r′ → (blocksOf r ≡ blocksOf r′) × (r .depth ≡ r′ .depth)
-nested-once {r = r} {r′} x y =
-    let e : blocksOf r ≡ blocksOf r′ = x .is ∙ sym (y .is) in
-    (e, sym (depth-many r) ∙ ap many e ∙ depth-many r′)
+pub nested-once : {n : ℕ} {b r r′ : Blocks} → Nesting n b r → Nesting n b r′ → r ≡ r′
+nested-once x y = x .on ∙ sym (y .on)
 
 -- ---- the verdict
 
