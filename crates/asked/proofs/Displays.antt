@@ -12,7 +12,7 @@ use Rattle.rules.specs.Meaning.{reassemble}
 use Rattle.rules.specs.Asked.{From, here, later, Texted, says, long-label, no-table, text-refused, Viewed, nowhere}
 use Rattle.rules.proofs.Tables.Judge.{verdict-complete}
 use Rattle.rules.proofs.Tables.Seeking.{fromOf, from-there}
-use Rattle.rules.proofs.Tables.Asked.{textOf, nameOf, Outcome, outcome, fitted, fromRow, fromSpan, textRow, textedOf, texted-there, viewedOf, viewed-there, viewed-once}
+use Rattle.rules.proofs.Tables.Asked.{textOf, nameOf, Outcome, outcome, fitted, fromRow, fromSpan, textRow, textedOf, texted-there, viewedOf, viewed-there}
 use Rattle.rows.specs.Rows.{span, rowsOf}
 use Rattle.rows.specs.declared.Row.{Row}
 use Rattle.table.specs.Judging.{Judges, proper, improper}
@@ -24,7 +24,7 @@ use Rattle.asked.specs.declared.Shown.the-variants.{Span, Nothing}
 use Rattle.asked.specs.declared.Stretch.{Stretch}
 use Rattle.asked.specs.declared.TextAnswer.{TextAnswer}
 use Rattle.asked.specs.declared.TextAnswer.the-variants.{Improper, NoText}
-use Rattle.asked.specs.Answers.{textSaid, Views, ViewsIn}
+use Rattle.asked.specs.Answers.{textSaid, Views}
 use Rattle.asked.specs.Walking.{Left, Stands, shownIn, shownText, nameSpan, stretchOf, TextFrom}
 use Rattle.asked.proofs.Sighted.{first-row, left-proper}
 
@@ -182,12 +182,3 @@ module _ (label lent : List ℕ) (row : ℕ) where
           let q : viewedOf label lent row ≡ nameSpan (fromOf row rs) = rw (le-leb (length label) 65535 h, verdict-complete label h lent v) in
           let i = spans-inside rs v in
           subst (Views label lent row) (sym g) (record { viewed = subst (Viewed label lent row) q (viewed-there label lent row); ordered = i .0; inside = i .1 })
-
--- ---- no second view
-
-module _ (label lent : List ℕ) (row : ℕ) where
-  pub stretch-once : (s t : Stretch) → Views label lent row s → Views label lent row t → (s .start ≡ t .start) × (s .end ≡ t .end)
-  stretch-once s t a b = let e = viewed-once label lent row (a .viewed) (b .viewed) in (ap (λ (p : rule.Span). p .from) e, ap (λ (p : rule.Span). p .upto) e)
-
-  pub view-once : (w v : List ℕ) → ViewsIn label lent row w → ViewsIn label lent row v → w ≡ v
-  view-once w v a b = a .bytes ∙ ap (stretch label) (viewed-once label lent row (a .viewed) (b .viewed)) ∙ sym (b .bytes)

@@ -4,7 +4,7 @@ use mathlib.Core.Path.{_≡_, refl, sym, ap, subst, _∙_}
 use mathlib.Core.Bool.{Bool, true, false, cond}
 use mathlib.Core.List.{List, [], _∷_, _++_}
 use native.Mathlib.Omega.{arith}
-use borrow.Author.Tests.{leb-true, leb-false, ne-eqb, le-leb, lt-leb}
+use borrow.Author.Tests.{leb-true, leb-false, ne-eqb, le-leb, lt-leb, lt-ltb, le-ltb}
 use lib.Dec.{leb}
 use lib.ListN.{length, drop, length-append, length-drop, drop-of-length-le}
 use lib.Seq.{drop-append-seam, drop-drop}
@@ -25,9 +25,10 @@ use Rattle.rows.specs.declared.Row.{Row}
 use Rattle.rows.specs.declared.Row.the-variants as rows
 use Rattle.table.specs.Decoding.{decodedOf, Reads}
 use Rattle.table.specs.declared.Got.{Got}
+use Rattle.table.proofs.Once.{row-at-is}
 use Rattle.asked.specs.declared.Way.{Way}
 use Rattle.asked.specs.declared.Way.the-variants.{Named, Plain, Opens, Closes, Ends}
-use Rattle.asked.specs.Walking.{Left, firstOf, Stands, wayIn, wayOf, beyond}
+use Rattle.asked.specs.Walking.{Left, firstOf, strideAt, Walked, arrived, passed, Stands, wayIn, wayOf, beyond, stops, goes, stepBy, stepAt, Skipped, stopped, gone, entered}
 use Rattle.asked.specs.Walking as walking
 
 -- ---- the rows left
@@ -149,31 +150,36 @@ reaches-on row at next r rs h e =
 
 -- what the walk to a row keeps up
 pub record Walks (lent : List ℕ) (row at : ℕ) : Type 0 where
+  pub goes : (r : Row) → Walked lent row at r → Walked lent row 0 r
   pub on : (rs : List rule.Row) → Left lent 0 rs → (left : List rule.Row) × Left lent at left × (fromOf row rs ≡ reaches row at left)
 
 module _ (lent : List ℕ) (row : ℕ) where
   pub walk-starts : Walks lent row 0
-  walk-starts = record { on = λ rs l. let e : row - 0 ≡ row = omega arith in (rs, l, rw (le-leb 0 row (omega arith), e)) }
+  walk-starts = record { goes = λ r k. k; on = λ rs l. let e : row - 0 ≡ row = omega arith in (rs, l, rw (le-leb 0 row (omega arith), e)) }
 
   pub walk-turns : (at : ℕ) (g : Got) → Walks lent row at → at < row → Reads lent at g → at < g .next → Walks lent row (g .next)
-  walk-turns at g w h v n = record { on = λ rs l. let k = w .on rs l in go (k .0) (rowsOf (g .row)) (k .2) (sees lent at g (k .0) v (k .1)) }
+  walk-turns at g w h v n = record { goes = λ r k. w .goes r (passed (g .next) step k); on = λ rs l. let k = w .on rs l in go (k .0) (rowsOf (g .row)) (k .2) (sees lent at g (k .0) v (k .1)) }
     where
+      step : strideAt lent row at ≡ walking.passes (g .next)
+      step = rw (lt-ltb at row h, ← row-at-is v, lt-leb (g .next) at n)
+
       go : {x : List rule.Row} (left qs : List rule.Row) → x ≡ reaches row at left → Sees lent at (g .next) left qs → (left : List rule.Row) × Left lent (g .next) left × (x ≡ reaches row (g .next) left)
       go [] qs e (no-row k) = absurd (omega arith)
       go (r ∷ rs) qs e (a-row f l) = (rs, l, e ∙ reaches-on row at (g .next) r rs h f)
 
-  pub walk-stops : (at : ℕ) (g : Got) → Walks lent row at → Reads lent at g → g .next ≤ at → Stands lent row rows.Nothing
-  walk-stops at g w v n = record { is = λ rs l. let k = w .on rs l in go (k .0) (rowsOf (g .row)) (k .2) (sees lent at g (k .0) v (k .1)) }
+  pub walk-stops : (at : ℕ) (g : Got) → Walks lent row at → at < row → Reads lent at g → g .next ≤ at → Stands lent row rows.Nothing
+  walk-stops at g w h v n = record { walked = w .goes rows.Nothing (arrived (rw (lt-ltb at row h, ← row-at-is v, le-leb (g .next) at n))); is = λ rs l. let k = w .on rs l in go (k .0) (rowsOf (g .row)) (k .2) (sees lent at g (k .0) v (k .1)) }
     where
       go : {x : List rule.Row} (left qs : List rule.Row) → x ≡ reaches row at left → Sees lent at (g .next) left qs → [] ≡ firstOf x
       go [] qs e (no-row k) = ap firstOf (sym (e ∙ reaches-none row at))
       go (r ∷ rs) qs e (a-row f l) = absurd (omega (arith, f, encode-size r))
 
   pub walk-past : (at : ℕ) → Walks lent row at → row < at → Stands lent row rows.Nothing
-  walk-past at w h = record { is = λ rs l. let e : reaches row at (w .on rs l .0) ≡ [] = rw (lt-leb at row h) in ap firstOf (sym (w .on rs l .2 ∙ e)) }
+  walk-past at w h = record { walked = w .goes rows.Nothing (arrived (rw (le-ltb at row (omega arith), lt-ltb row at h))); is = λ rs l. let e : reaches row at (w .on rs l .0) ≡ [] = rw (lt-leb at row h) in ap firstOf (sym (w .on rs l .2 ∙ e)) }
 
   pub walk-ends : (at : ℕ) (g : Got) → Walks lent row at → row ≤ at → at ≤ row → Reads lent row g → Stands lent row (g .row)
   walk-ends at g w h k v = record {
+    walked = w .goes (g .row) (arrived (rw (le-ltb at row h, le-ltb row at k, ← row-at-is v)));
     is = λ rs l.
         let o = w .on rs l in
         let e : at ≡ row = omega arith in
@@ -246,18 +252,20 @@ no-turn lent at g rs l v h = go rs (rowsOf (g .row)) (sees lent at g rs v l)
 
 -- what the walk to a block's end keeps up
 pub record Blocked (lent : List ℕ) (from at : ℕ) : Type 0 where
+  pub skips : (e : ℕ) → Skipped lent at e → Skipped lent from e
   pub on : (rs : List rule.Row) → Left lent from rs → (left : List rule.Row) × Left lent at left × (beyond 0 rs ≡ beyond 0 left)
   pub after : from ≤ at
   pub within : at ≤ length lent
 
 module _ (lent : List ℕ) (from : ℕ) where
   pub block-starts : from ≤ length lent → Blocked lent from from
-  block-starts h = record { on = λ rs l. (rs, l, refl); after = omega arith; within = h }
+  block-starts h = record { skips = λ e k. k; on = λ rs l. (rs, l, refl); after = omega arith; within = h }
 
   module _ (at : ℕ) (b : Blocked lent from at) where
     -- the table ends before the block is closed
-    ends-with : ((rs : List rule.Row) → Left lent at rs → beyond 0 rs ≡ []) → walking.Closes lent from (length lent)
-    ends-with f = record {
+    ends-with : stepAt lent at ≡ stops (length lent) → ((rs : List rule.Row) → Left lent at rs → beyond 0 rs ≡ []) → walking.Closes lent from (length lent)
+    ends-with s f = record {
+      skipped = b .skips (length lent) (stopped s);
       is = λ rs l. let o = b .on rs l in subst (Left lent (length lent)) (sym (o .2 ∙ f (o .0) (o .1))) (left-none lent);
       after = omega (arith, b .after, b .within);
       within = omega arith;
@@ -268,27 +276,31 @@ module _ (lent : List ℕ) (from : ℕ) where
     none-beyond e = rw e
 
     pub block-runs-out : length lent ≤ at → walking.Closes lent from (length lent)
-    block-runs-out h = ends-with (λ rs l. none-beyond (left-end lent at rs l h))
+    block-runs-out h = ends-with (rw (le-leb (length lent) at h)) (λ rs l. none-beyond (left-end lent at rs l h))
 
     module _ (g : Got) (v : Reads lent at g) where
-      pub block-cut : g .next ≤ at → walking.Closes lent from (length lent)
-      block-cut h = ends-with (λ rs l. none-beyond (no-turn lent at g rs l v h))
+      pub block-cut : at < length lent → g .next ≤ at → walking.Closes lent from (length lent)
+      block-cut s h = ends-with (rw (lt-leb (length lent) at s, ← row-at-is v, le-leb (g .next) at h)) (λ rs l. none-beyond (no-turn lent at g rs l v h))
 
       module _ (w : Way) (e : w ≡ wayOf (rowsOf (g .row))) where
-        pub block-ends : w ≡ Ends → walking.Closes lent from (length lent)
-        unfolding beyond
-        block-ends f = ends-with (λ rs l. go rs (turns lent at g rs w Ends l v e f))
-          where
-            go : (rs : List rule.Row) → Turns lent at (g .next) rs Ends → beyond 0 rs ≡ []
-            go [] t = refl
-            go (r ∷ rs) (turn-ends h) = rw h
-
         module _ (past : at < g .next) (short : at < length lent) where
           next-within : g .next ≤ length lent
           next-within = omega (arith, v .within)
 
-          passes : {z : Way} → w ≡ z → ((rs : List rule.Row) → Turns lent at (g .next) rs z → (left : List rule.Row) × Left lent (g .next) left × (beyond 0 rs ≡ beyond 0 left)) → Blocked lent from (g .next)
-          passes f go = record {
+          step : {z : Way} → w ≡ z → stepAt lent at ≡ stepBy z (length lent) (g .next)
+          step {z} f = rw (lt-leb (length lent) at short, ← row-at-is v, lt-leb (g .next) at past) (ap (λ (y : Way). stepBy y (length lent) (g .next)) (sym e ∙ f))
+
+          pub block-ends : w ≡ Ends → walking.Closes lent from (length lent)
+          unfolding beyond
+          block-ends f = ends-with (step f) (λ rs l. go rs (turns lent at g rs w Ends l v e f))
+            where
+              go : (rs : List rule.Row) → Turns lent at (g .next) rs Ends → beyond 0 rs ≡ []
+              go [] t = refl
+              go (r ∷ rs) (turn-ends h) = rw h
+
+          passes : {z : Way} → w ≡ z → stepBy z (length lent) (g .next) ≡ goes (g .next) → ((rs : List rule.Row) → Turns lent at (g .next) rs z → (left : List rule.Row) × Left lent (g .next) left × (beyond 0 rs ≡ beyond 0 left)) → Blocked lent from (g .next)
+          passes f s go = record {
+            skips = λ e k. b .skips e (gone (g .next) (step f ∙ s) k);
             on = λ rs l. let o = b .on rs l in let k = go (o .0) (turns lent at g (o .0) w _ (o .1) v e f) in (k .0, k .1, o .2 ∙ k .2);
             after = omega (arith, b .after);
             within = next-within;
@@ -296,14 +308,14 @@ module _ (lent : List ℕ) (from : ℕ) where
 
           pub block-named : (x y : ℕ) → w ≡ Named x y → Blocked lent from (g .next)
           unfolding beyond
-          block-named x y f = passes f (λ rs t. go x y rs t)
+          block-named x y f = passes f refl (λ rs t. go x y rs t)
             where
               go : (x y : ℕ) (rs : List rule.Row) → Turns lent at (g .next) rs (Named x y) → (left : List rule.Row) × Left lent (g .next) left × (beyond 0 rs ≡ beyond 0 left)
               go x y (r ∷ rs) (turn-named h n l) = (rs, l, rw h)
 
           pub block-plain : w ≡ Plain → Blocked lent from (g .next)
           unfolding beyond
-          block-plain f = passes f (λ rs t. go rs t)
+          block-plain f = passes f refl (λ rs t. go rs t)
             where
               go : (rs : List rule.Row) → Turns lent at (g .next) rs Plain → (left : List rule.Row) × Left lent (g .next) left × (beyond 0 rs ≡ beyond 0 left)
               go (r ∷ rs) (turn-plain h n l) = (rs, l, rw h)
@@ -311,6 +323,7 @@ module _ (lent : List ℕ) (from : ℕ) where
           pub block-closes : w ≡ Closes → walking.Closes lent from (g .next)
           unfolding beyond
           block-closes f = record {
+            skipped = b .skips (g .next) (stopped (step f));
             is = λ rs l. let o = b .on rs l in subst (Left lent (g .next)) (sym (o .2)) (go (o .0) (turns lent at g (o .0) w Closes (o .1) v e f));
             after = omega (arith, b .after);
             within = next-within;
@@ -322,6 +335,7 @@ module _ (lent : List ℕ) (from : ℕ) where
           pub block-opens : (p : ℕ) → w ≡ Opens → walking.Closes lent (g .next) p → Blocked lent from p
           unfolding beyond
           block-opens p f c = record {
+            skips = λ e k. b .skips e (entered (g .next) p (step f) (c .skipped) k);
             on = λ rs l. let o = b .on rs l in let k = go (o .0) (turns lent at g (o .0) w Opens (o .1) v e f) in (k .0, k .1, o .2 ∙ k .2);
             after = omega (arith, b .after, c .after);
             within = c .within;

@@ -13,6 +13,7 @@ use Rattle.rules.specs.Written.{canonical}
 use Rattle.rules.specs.Reading.{Said, Outcome, accepted, refused, Reads}
 use Rattle.rules.specs.Asked.{says}
 use Rattle.rules.proofs.Reading.Reader.{reading-unique}
+use Rattle.relabel.specs.declared.anew.Answer.{Answer}
 use Rattle.relabel.specs.Relabels.{Relabels, written, short-room, long-written, long-table, not-read}
 
 -- the answer and the room's last bytes
@@ -55,3 +56,10 @@ relabel-once {label} {room} {last} {last′} {s} {s′} a b =
     let d′ = by-reading b in
     let e : ending s last ≡ ending s′ last′ = d .is ∙ ap (decided label room) (reading-unique base (d .reads) (d′ .reads)) ∙ sym (d′ .is) in
     (ap said e, ap bytes e)
+
+-- the numbers that are handed back
+pub relabelled-once : {label room last last′ : List ℕ} {r r′ : Answer} → Relabels label room (says (r .code) (r .place) (r .length)) last → Relabels label room (says (r′ .code) (r′ .place) (r′ .length)) last′ →
+    (r ≡ r′) × (last ≡ last′)
+relabelled-once a b =
+    let u = relabel-once a b in
+    (ap (λ (s : Said). record { code = s .code; place = s .place; length = s .size }) (u .0), u .1)

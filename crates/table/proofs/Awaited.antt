@@ -19,7 +19,7 @@ use Rattle.rows.specs.declared.Op.{Op}
 use Rattle.rows.specs.declared.Op.the-variants as ops
 use Rattle.rows.specs.declared.Row.{Row}
 use Rattle.rows.specs.declared.Row.the-variants.{Open, Close, Unit}
-use Rattle.blocks.specs.Stack.{Block, block, blocksOf, rest, many, topOf}
+use Rattle.blocks.specs.Stack.{Block, block, blocksOf, rest, many, topOf, pushOn, popOff}
 use Rattle.blocks.specs.declared.Blocks.{Blocks}
 use Rattle.blocks.specs.declared.Top as top
 use Rattle.blocks.specs.declared.Top.the-variants as tops
@@ -84,24 +84,24 @@ pub roomy : (n j d : ℕ) → n ≡ j → (n ≡ j → d < 80) → d < 80
 roomy n j d h f = f h
 
 module _ (n : ℕ) (b r : Blocks) where
-  pub opens-object : n ≡ 3 → blocksOf r ≡ block kinds.Object 0 0 ∷ blocksOf b → r .depth ≡ b .depth + 1 → (n ≡ 3 → b .depth < 80) → Nesting n b r
-  opens-object h e d l = record { is = rw (h, e); within = let z = l h in omega arith }
+  pub opens-object : n ≡ 3 → blocksOf r ≡ block kinds.Object 0 0 ∷ blocksOf b → r .depth ≡ b .depth + 1 → r ≡ pushOn b kinds.Object 0 0 → (n ≡ 3 → b .depth < 80) → Nesting n b r
+  opens-object h e d o l = record { on = rw h o; is = rw (h, e); within = let z = l h in omega arith }
 
-  pub opens-group : n ≡ 5 → blocksOf r ≡ block kinds.Group 0 0 ∷ blocksOf b → r .depth ≡ b .depth + 1 → (n ≡ 5 → b .depth < 80) → Nesting n b r
-  opens-group h e d l = record { is = rw (h, e); within = let z = l h in omega arith }
+  pub opens-group : n ≡ 5 → blocksOf r ≡ block kinds.Group 0 0 ∷ blocksOf b → r .depth ≡ b .depth + 1 → r ≡ pushOn b kinds.Group 0 0 → (n ≡ 5 → b .depth < 80) → Nesting n b r
+  opens-group h e d o l = record { on = rw h o; is = rw (h, e); within = let z = l h in omega arith }
 
   fewer : (bs : List Block) → kindsIn (rest bs) ≡ less (kindsIn bs)
   fewer [] = refl
   fewer (block k x y ∷ bs) = refl
 
-  pub closes-object : n ≡ 4 → blocksOf r ≡ rest (blocksOf b) → r .depth ≤ b .depth → b .depth ≤ 80 → Nesting n b r
-  closes-object h e d l = record { is = ap kindsIn e ∙ rw h (fewer (blocksOf b)); within = omega arith }
+  pub closes-object : n ≡ 4 → blocksOf r ≡ rest (blocksOf b) → r .depth ≤ b .depth → r ≡ popOff b → b .depth ≤ 80 → Nesting n b r
+  closes-object h e d o l = record { on = rw h o; is = ap kindsIn e ∙ rw h (fewer (blocksOf b)); within = omega arith }
 
-  pub closes-group : n ≡ 6 → blocksOf r ≡ rest (blocksOf b) → r .depth ≤ b .depth → b .depth ≤ 80 → Nesting n b r
-  closes-group h e d l = record { is = ap kindsIn e ∙ rw h (fewer (blocksOf b)); within = omega arith }
+  pub closes-group : n ≡ 6 → blocksOf r ≡ rest (blocksOf b) → r .depth ≤ b .depth → r ≡ popOff b → b .depth ≤ 80 → Nesting n b r
+  closes-group h e d o l = record { on = rw h o; is = ap kindsIn e ∙ rw h (fewer (blocksOf b)); within = omega arith }
 
 pub opens-none : (n : ℕ) (b : Blocks) → (n ≡ 3 → ⊥) → (n ≡ 5 → ⊥) → (n ≡ 4 → ⊥) → (n ≡ 6 → ⊥) → b .depth ≤ 80 → Nesting n b b
-opens-none n b h i j k l = record { is = rw (ne-eqb n 3 h, ne-eqb n 5 i, ne-eqb n 4 j, ne-eqb n 6 k); within = l }
+opens-none n b h i j k l = record { on = rw (ne-eqb n 3 h, ne-eqb n 5 i, ne-eqb n 4 j, ne-eqb n 6 k); is = rw (ne-eqb n 3 h, ne-eqb n 5 i, ne-eqb n 4 j, ne-eqb n 6 k); within = l }
 
 pub ruleset order = (taken, passed, taken-as, no-room, room, closing-is, after-is, next-is, none-is, end-is, code-is, open-code-is, close-code-is, unit-code-is, roomy, opens-object, opens-group, closes-object, closes-group, opens-none, needs)
 

@@ -5,3 +5,4 @@ pub mod Worths
 pub mod Held
 pub mod Awaited
 pub mod Checking
+pub mod Once

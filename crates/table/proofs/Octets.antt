@@ -1,34 +1,61 @@
 -- Numbers out of a body's bytes, as the rules' reader of rows takes them, and two's complement.
 use Prim.Native.Nat.{ℕ, zero, suc, _+_, _-_, _*_, _≤_, _<_}
 use mathlib.Core.Bool.{Bool, true, false, cond}
-use mathlib.Core.Path.{_≡_, refl, ap, _∙_}
+use mathlib.Core.Path.{_≡_, refl, sym, ap, _∙_}
 use mathlib.Core.List.{List, [], _∷_, _++_}
 use native.Mathlib.Nat.{add-assoc, zero-add}
 use native.Mathlib.Omega.{arith}
 use borrow.Author.Needs.{needs}
 use borrow.Author.Tests.{lt-ltb, le-leb, lt-leb, leb-true, leb-false}
 use lib.Dec.{ltb, leb}
-use lib.ListN.{length, drop}
+use lib.ListN.{length, getD, drop}
 use Rattle.rules.proofs.Tables.Decode.{Decoded, nothing, field, byte}
 use Rattle.classes.specs.Places.{ByteAt}
 use Rattle.classes.proofs.Runs.{unroll}
 use Rattle.words.specs.Says.{whole}
-use Rattle.table.specs.Decoding.{Field, Byte}
+use Rattle.table.specs.Decoding.{fit, Field, Byte}
+
+-- ---- so many bytes of a body
+
+pub fit-size : (n : ℕ) (b : List ℕ) → length (fit n b) ≡ n
+unfolding fit
+fit-size zero b = refl
+fit-size (suc n) [] = ap suc (fit-size n [])
+fit-size (suc n) (x ∷ b) = ap suc (fit-size n b)
+
+pub fit-whole : (n : ℕ) (b : List ℕ) → length b ≡ n → fit n b ≡ b
+unfolding fit
+fit-whole zero [] e = refl
+fit-whole zero (x ∷ b) e = absurd (omega arith)
+fit-whole (suc n) [] e = absurd (omega arith)
+fit-whole (suc n) (x ∷ b) e = ap (λ (l : List ℕ). x ∷ l) (fit-whole n b (omega arith))
+
+fit-at : (n : ℕ) (b : List ℕ) (i : ℕ) → i < n → getD (fit n b) i 0 ≡ getD b i 0
+unfolding fit
+fit-at zero b i h = absurd (omega arith)
+fit-at (suc n) [] zero h = refl
+fit-at (suc n) [] (suc i) h = fit-at n [] i (omega arith)
+fit-at (suc n) (x ∷ b) zero h = refl
+fit-at (suc n) (x ∷ b) (suc i) h = fit-at n b i (omega arith)
+
+fit-turn : (n : ℕ) (b : List ℕ) (i x : ℕ) → ByteAt b i x → i + 1 ≤ n → drop i (fit n b) ≡ x ∷ drop (i + 1) (fit n b)
+fit-turn n b i x h l =
+    unroll (fit n b) i (omega (arith, fit-size n b)) ∙ ap (λ (y : ℕ). y ∷ drop (i + 1) (fit n b)) (fit-at n b i (omega arith) ∙ sym (h .is))
 
 -- ---- fields
 
 pub one-byte : (a : ℕ) (b : List ℕ) (i x : ℕ) → ByteAt b i x → x < 256 → Field 1 a b i (a * 256 + x)
 unfolding field
-one-byte a b i x h l = record { then = λ k rest f. go k rest f }
+one-byte a b i x h l = record { then = λ n k rest f. go n k rest f }
   where
-    go : i + 1 ≤ length b → (rest : List ℕ) (f : ℕ → List ℕ → Decoded) → field 1 a (drop i b ++ rest) f ≡ f (a * 256 + x) (drop (i + 1) b ++ rest)
-    go k rest f = rw (unroll b i (omega arith), ← h .is, lt-ltb x 256 l)
+    go : (n : ℕ) → i + 1 ≤ n → (rest : List ℕ) (f : ℕ → List ℕ → Decoded) → field 1 a (drop i (fit n b) ++ rest) f ≡ f (a * 256 + x) (drop (i + 1) (fit n b) ++ rest)
+    go n k rest f = rw (fit-turn n b i x h k, lt-ltb x 256 l)
 
 pub a-byte : (b : List ℕ) (i x : ℕ) → ByteAt b i x → Byte b i x
-a-byte b i x h = record { then = λ k rest f. go k rest f }
+a-byte b i x h = record { then = λ n k rest f. go n k rest f }
   where
-    go : i + 1 ≤ length b → (rest : List ℕ) (f : ℕ → List ℕ → Decoded) → byte (drop i b ++ rest) f ≡ f x (drop (i + 1) b ++ rest)
-    go k rest f = rw (unroll b i (omega arith), ← h .is)
+    go : (n : ℕ) → i + 1 ≤ n → (rest : List ℕ) (f : ℕ → List ℕ → Decoded) → byte (drop i (fit n b) ++ rest) f ≡ f x (drop (i + 1) (fit n b) ++ rest)
+    go n k rest f = rw (fit-turn n b i x h k)
 
 -- a number in two parts
 field-more : (k j a : ℕ) (s : List ℕ) (f : ℕ → List ℕ → Decoded) → field (k + j) a s f ≡ field k a s (λ v t. field j v t f)
@@ -41,8 +68,8 @@ field-more (suc k) j a (x ∷ s) f =
 
 together : (k j a : ℕ) (b : List ℕ) (i h r : ℕ) → Field k a b i h → Field j h b (i + k) r → Field (k + j) a b i r
 together k j a b i h r p q = record {
-  then = λ l rest f. field-more k j a (drop i b ++ rest) f ∙ p .then (omega arith) rest (λ v t. field j v t f) ∙ q .then (omega arith) rest f
-      ∙ ap (λ (n : ℕ). f r (drop n b ++ rest)) (add-assoc i k j);
+  then = λ n l rest f. field-more k j a (drop i (fit n b) ++ rest) f ∙ p .then n (omega arith) rest (λ v t. field j v t f) ∙ q .then n (omega arith) rest f
+      ∙ ap (λ (m : ℕ). f r (drop m (fit n b) ++ rest)) (add-assoc i k j);
 }
 
 pub two-bytes : (a : ℕ) (b : List ℕ) (i h r : ℕ) → Field 1 a b i h → Field 1 h b (i + 1) r → Field 2 a b i r

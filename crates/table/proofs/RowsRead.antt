@@ -5,13 +5,13 @@ use mathlib.Core.Path.{_≡_, refl, sym, ap, ap₂, subst, _∙_}
 use mathlib.Core.List.{List, [], _∷_, _++_}
 use native.Mathlib.Omega.{arith}
 use borrow.Author.Needs.{needs}
-use borrow.Author.Tests.{eqb-true, ne-eqb, lt-leb}
+use borrow.Author.Tests.{eqb-true, ne-eqb, lt-leb, lt-ltb, le-ltb}
 use lib.Dec.{ltb, leb, eqb}
 use lib.ListN.{length, getD, drop, length-take, length-drop, drop-of-length-le}
 use Rattle.rules.specs.Data as rule
 use Rattle.rules.specs.Table.{opNumber}
 use Rattle.rules.proofs.Tables.Decode as reader
-use Rattle.rules.proofs.Tables.Decode.{Decoded, nothing, got, decode, field, byte, spanThen, momentThen, unitThen}
+use Rattle.rules.proofs.Tables.Decode.{Decoded, nothing, got, decode, field, byte, spanThen, momentThen, unitThen, nothing-got}
 use Rattle.classes.specs.Places.{part}
 use Rattle.classes.proofs.Runs.{unroll, joined}
 use Rattle.rows.specs.Rows.{span, rowsOf, opOf}
@@ -20,8 +20,8 @@ use Rattle.rows.specs.declared.Row.the-variants as rows
 use Rattle.rows.specs.declared.Kind.the-variants as kinds
 use Rattle.rows.specs.declared.Op as op
 use Rattle.rows.specs.declared.Op.the-variants as ops
-use Rattle.table.specs.Decoding.{Field, Byte, bodyOf, decodedOf, Body, UnitBody, Reads}
-use Rattle.table.proofs.Octets.{signs}
+use Rattle.table.specs.Decoding.{fit, Field, Byte, bodyOf, decodedOf, Body, UnitBody, placeAfter, Reads}
+use Rattle.table.proofs.Octets.{fit-size, fit-whole, signs}
 
 -- ---- how long bodies are
 
@@ -37,11 +37,15 @@ pub ruleset lengths = (length-is, no-length, needs)
 
 -- ---- spans
 
-past : (n : ℕ) (b rest : List ℕ) → length b ≡ n → drop n b ++ rest ≡ rest
-past n b rest e = ap (λ (l : List ℕ). l ++ rest) (drop-of-length-le b {i = n} (omega arith))
+past : (n : ℕ) (b rest : List ℕ) → drop n (fit n b) ++ rest ≡ rest
+past n b rest = ap (λ (l : List ℕ). l ++ rest) (drop-of-length-le (fit n b) {i = n} (omega (arith, fit-size n b)))
 
-spans : (b : List ℕ) (x y : ℕ) (f : rule.Span → rule.Row) → Field 2 0 b 0 x → Field 2 0 b 2 y → length b ≡ 4 → (rest : List ℕ) → spanThen (b ++ rest) f ≡ got (f (span x y)) rest
-spans b x y f p q e rest = p .then (omega arith) rest _ ∙ q .then (omega arith) rest _ ∙ ap (λ (l : List ℕ). got (f (span x y)) l) (past 4 b rest e)
+spans : (b : List ℕ) (x y : ℕ) (f : rule.Span → rule.Row) → Field 2 0 b 0 x → Field 2 0 b 2 y → (rest : List ℕ) → spanThen (fit 4 b ++ rest) f ≡ got (f (span x y)) rest
+spans b x y f p q rest = p .then 4 (omega arith) rest _ ∙ q .then 4 (omega arith) rest _ ∙ ap (λ (l : List ℕ). got (f (span x y)) l) (past 4 b rest)
+
+-- what has a row is no empty row
+row-there : {A : Type 0} {r : rule.Row} {rs : List rule.Row} → r ∷ rs ≡ [] → A
+row-there {A} {r} {rs} e = absurd (nothing-got (sym (ap (λ (l : List rule.Row). decodedOf l []) e)))
 
 kind-is : (j : ℕ) {k : ℕ} {b : List ℕ} {r : Row} → k ≡ j → Body j b r → Body k b r
 kind-is j {k} {b} {r} e h = subst (λ (i : ℕ). Body i b r) (sym e) h
@@ -49,36 +53,39 @@ kind-is j {k} {b} {r} e h = subst (λ (i : ℕ). Body i b r) (sym e) h
 module _ (k : ℕ) (b : List ℕ) (x y : ℕ) where
   pub attribute-row : k ≡ 1 → Field 2 0 b 0 x → Field 2 0 b 2 y → Body k b (rows.Attribute x y)
   unfolding decode
-  attribute-row e p q = kind-is 1 e (record { is = λ l rest. spans b x y rule.attribute p q l rest })
+  attribute-row e p q = kind-is 1 e (record { is = λ rest. spans b x y rule.attribute p q rest; plain = λ e. row-there e })
 
   pub pointer-row : k ≡ 2 → Field 2 0 b 0 x → Field 2 0 b 2 y → Body k b (rows.Pointer x y)
   unfolding decode
-  pointer-row e p q = kind-is 2 e (record { is = λ l rest. spans b x y rule.pointer p q l rest })
+  pointer-row e p q = kind-is 2 e (record { is = λ rest. spans b x y rule.pointer p q rest; plain = λ e. row-there e })
 
   pub object-row : k ≡ 3 → Field 2 0 b 0 x → Field 2 0 b 2 y → Body k b (rows.Open kinds.Object x y)
   unfolding decode
-  object-row e p q = kind-is 3 e (record { is = λ l rest. spans b x y (rule.opened rule.object) p q l rest })
+  object-row e p q = kind-is 3 e (record { is = λ rest. spans b x y (rule.opened rule.object) p q rest; plain = λ e. row-there e })
 
   pub group-row : k ≡ 5 → Field 2 0 b 0 x → Field 2 0 b 2 y → Body k b (rows.Open kinds.Group x y)
   unfolding decode
-  group-row e p q = kind-is 5 e (record { is = λ l rest. spans b x y (rule.opened rule.group) p q l rest })
+  group-row e p q = kind-is 5 e (record { is = λ rest. spans b x y (rule.opened rule.group) p q rest; plain = λ e. row-there e })
 
   pub text-row : k ≡ 13 → Field 2 0 b 0 x → Field 2 0 b 2 y → Body k b (rows.Text x y)
   unfolding decode
-  text-row e p q = kind-is 13 e (record { is = λ l rest. spans b x y rule.a-text p q l rest })
+  text-row e p q = kind-is 13 e (record { is = λ rest. spans b x y rule.a-text p q rest; plain = λ e. row-there e })
 
   pub symbol-row : k ≡ 14 → Field 2 0 b 0 x → Field 2 0 b 2 y → Body k b (rows.Symbol x y)
   unfolding decode
-  symbol-row e p q = kind-is 14 e (record { is = λ l rest. spans b x y rule.a-symbol p q l rest })
+  symbol-row e p q = kind-is 14 e (record { is = λ rest. spans b x y rule.a-symbol p q rest; plain = λ e. row-there e })
 
 -- ---- rows without a body
 
-empty : (b rest : List ℕ) → length b ≡ 0 → b ++ rest ≡ rest
-empty [] rest e = refl
-empty (x ∷ b) rest e = absurd (omega arith)
+empty : (n : ℕ) (b rest : List ℕ) → n ≡ 0 → fit n b ++ rest ≡ rest
+unfolding fit
+empty n b rest e = rw e
 
 bare : (j : ℕ) (b : List ℕ) (r : Row) (x : rule.Row) → ((s : List ℕ) → decode (j ∷ s) ≡ got x s) → bodyOf j ≡ 0 → decodedOf (rowsOf r) ≡ got x → Body j b r
-bare j b r x h e f = record { is = λ l rest. ap (λ (s : List ℕ). decode (j ∷ s)) (empty b rest (l ∙ e)) ∙ h rest ∙ ap (λ (g : List ℕ → Decoded). g rest) (sym f) }
+bare j b r x h e f = record {
+  is = λ rest. ap (λ (s : List ℕ). decode (j ∷ s)) (empty (bodyOf j) b rest e) ∙ h rest ∙ ap (λ (g : List ℕ → Decoded). g rest) (sym f);
+  plain = λ q. absurd (nothing-got (ap (λ (l : List rule.Row). decodedOf l []) (sym q) ∙ ap (λ (g : List ℕ → Decoded). g []) f));
+}
 
 module _ (k : ℕ) (b : List ℕ) where
   pub object-end-row : k ≡ 4 → Body k b (rows.Close kinds.Object)
@@ -107,7 +114,7 @@ module _ (k : ℕ) (b : List ℕ) where
 
   pub last-row : (x : ℕ) → k ≡ 99 → Field 2 0 b 0 x → Body k b (rows.Last x)
   unfolding decode
-  last-row x e p = kind-is 99 e (record { is = λ l rest. p .then (omega arith) rest _ ∙ ap (λ (s : List ℕ). got (rule.last x) s) (past 2 b rest l) })
+  last-row x e p = kind-is 99 e (record { is = λ rest. p .then 2 (omega arith) rest _ ∙ ap (λ (s : List ℕ). got (rule.last x) s) (past 2 b rest); plain = λ e. row-there e })
 
   pub integer-row : (r : Row) → k ≡ 10 → Body 10 b r → Body k b r
   integer-row r e h = kind-is 10 e h
@@ -126,16 +133,18 @@ module _ (k : ℕ) (b : List ℕ) where
 pub an-integer : (b : List ℕ) (v z : ℕ) (m : Bool) → Field 8 0 b 0 v → m ≡ leb 9223372036854775808 v → z ≡ cond (leb 9223372036854775808 v) (9223372036854775808 + 9223372036854775808 - v) v → Body 10 b (rows.Integer m z)
 unfolding decode
 an-integer b v z m p f g = record {
-  is = λ l rest. p .then (omega arith) rest _ ∙ ap₂ (λ (w : rule.Whole) (s : List ℕ). got (rule.an-integer w) s) (signs (256 ^ 8) 9223372036854775808 v m z refl f g) (past 8 b rest l);
+  is = λ rest. p .then 8 (omega arith) rest _ ∙ ap₂ (λ (w : rule.Whole) (s : List ℕ). got (rule.an-integer w) s) (signs (256 ^ 8) 9223372036854775808 v m z refl f g) (past 8 b rest);
+  plain = λ e. row-there e;
 }
 
 pub a-real : (b : List ℕ) (v z q y : ℕ) (m n : Bool) → Field 8 0 b 0 v → Field 2 0 b 8 q → m ≡ leb 9223372036854775808 v → z ≡ cond (leb 9223372036854775808 v) (9223372036854775808 + 9223372036854775808 - v) v →
     n ≡ leb 32768 q → y ≡ cond (leb 32768 q) (32768 + 32768 - q) q → Body 11 b (rows.Float (record { minus = m; number = z; below = n; power = y }))
 unfolding decode
 a-real b v z q y m n p p′ f g f′ g′ = record {
-  is = λ l rest. p .then (omega arith) rest _ ∙ p′ .then (omega arith) rest _
-      ∙ ap₂ (λ (w w′ : rule.Whole). got (rule.a-real (record { number = w; power = w′ })) (drop 10 b ++ rest)) (signs (256 ^ 8) 9223372036854775808 v m z refl f g) (signs (256 ^ 2) 32768 q n y refl f′ g′)
-      ∙ ap (got _) (past 10 b rest l);
+  is = λ rest. p .then 10 (omega arith) rest _ ∙ p′ .then 10 (omega arith) rest _
+      ∙ ap₂ (λ (w w′ : rule.Whole). got (rule.a-real (record { number = w; power = w′ })) (drop 10 (fit 10 b) ++ rest)) (signs (256 ^ 8) 9223372036854775808 v m z refl f g) (signs (256 ^ 2) 32768 q n y refl f′ g′)
+      ∙ ap (got _) (past 10 b rest);
+  plain = λ e. row-there e;
 }
 
 pub a-moment : (b : List ℕ) (y n o p m d i j c z : ℕ) (w : Bool) → Field 2 0 b 1 y → Field 4 0 b 8 n → Field 2 0 b 12 o → Byte b 0 p → Byte b 3 m → Byte b 4 d → Byte b 5 i → Byte b 6 j → Byte b 7 c →
@@ -143,10 +152,11 @@ pub a-moment : (b : List ℕ) (y n o p m d i j c z : ℕ) (w : Bool) → Field 2
     Body 12 b (rows.Time (record { parts = p; year = y; month = m; day = d; hour = i; minute = j; second = c; nanoseconds = n; west = w; offset = z }))
 unfolding decode
 a-moment b y n o p m d i j c z w hy hn ho hp hm hd hi hj hc f g = record {
-  is = λ l rest. hp .then (omega arith) rest _ ∙ hy .then (omega arith) rest _ ∙ hm .then (omega arith) rest _ ∙ hd .then (omega arith) rest _ ∙ hi .then (omega arith) rest _
-      ∙ hj .then (omega arith) rest _ ∙ hc .then (omega arith) rest _ ∙ hn .then (omega arith) rest _ ∙ ho .then (omega arith) rest _
+  is = λ rest. hp .then 14 (omega arith) rest _ ∙ hy .then 14 (omega arith) rest _ ∙ hm .then 14 (omega arith) rest _ ∙ hd .then 14 (omega arith) rest _ ∙ hi .then 14 (omega arith) rest _
+      ∙ hj .then 14 (omega arith) rest _ ∙ hc .then 14 (omega arith) rest _ ∙ hn .then 14 (omega arith) rest _ ∙ ho .then 14 (omega arith) rest _
       ∙ ap₂ (λ (x : rule.Whole) (s : List ℕ). got (rule.a-moment (record { parts = p; year = y; month = m; day = d; hour = i; minute = j; second = c; nanoseconds = n; offset = x })) s)
-      (signs (256 ^ 2) 32768 o w z refl f g) (past 14 b rest l);
+      (signs (256 ^ 2) 32768 o w z refl f g) (past 14 b rest);
+  plain = λ e. row-there e;
 }
 
 -- ---- units
@@ -158,15 +168,17 @@ op-found ops.Divided = refl
 
 pub unit-of : (p : op.Op) (b : List ℕ) (v x y z : ℕ) (m : Bool) → Field 1 0 b 5 v → Field 2 0 b 1 x → Field 2 0 b 3 y → m ≡ leb 128 v → z ≡ cond (leb 128 v) (128 + 128 - v) v → UnitBody p b (rows.Unit p x y m z)
 unit-of p b v x y z m hv hx hy f g = record {
-  is = λ l rest. hx .then (omega arith) rest _ ∙ hy .then (omega arith) rest _ ∙ hv .then (omega arith) rest _
-      ∙ ap₂ (λ (o : rule.Op) (w : rule.Whole). got (rule.a-unit o (span x y) w) (drop 6 b ++ rest)) (op-found p) (signs (256 ^ 1) 128 v m z refl f g)
-      ∙ ap (got _) (past 6 b rest l);
+  is = λ rest. hx .then 6 (omega arith) rest _ ∙ hy .then 6 (omega arith) rest _ ∙ hv .then 6 (omega arith) rest _
+      ∙ ap₂ (λ (o : rule.Op) (w : rule.Whole). got (rule.a-unit o (span x y) w) (drop 6 (fit 6 b) ++ rest)) (op-found p) (signs (256 ^ 1) 128 v m z refl f g)
+      ∙ ap (got _) (past 6 b rest);
+  plain = λ e. row-there e;
 }
 
 op-then : (p : op.Op) (b : List ℕ) (r : Row) → Byte b 0 (opNumber (opOf p)) → UnitBody p b r → Body 15 b r
 unfolding decode
 op-then p b r h u = record {
-  is = λ l rest. h .then (omega arith) rest _ ∙ ap (λ (t : Bool). cond t (unitThen (opNumber (opOf p)) (drop 1 b ++ rest)) nothing) (small p) ∙ u .is l rest;
+  is = λ rest. h .then 6 (omega arith) rest _ ∙ ap (λ (t : Bool). cond t (unitThen (opNumber (opOf p)) (drop 1 (fit 6 b) ++ rest)) nothing) (small p) ∙ u .is rest;
+  plain = u .plain;
 }
   where
     small : (p : op.Op) → leb (opNumber (opOf p)) 2 ≡ true
@@ -187,7 +199,8 @@ module _ (b : List ℕ) (n : ℕ) (r : Row) where
 pub unit-none : (b : List ℕ) (n : ℕ) → Byte b 0 n → (n ≡ 0 → ⊥) → (n ≡ 1 → ⊥) → (n ≡ 2 → ⊥) → Body 15 b rows.Nothing
 unfolding decode
 unit-none b n h x y z = record {
-  is = λ l rest. h .then (omega arith) rest _ ∙ ap (λ (t : Bool). cond t (unitThen n (drop 1 b ++ rest)) nothing) (lt-leb n 2 (more n x y z));
+  is = λ rest. h .then 6 (omega arith) rest _ ∙ ap (λ (t : Bool). cond t (unitThen n (drop 1 (fit 6 b) ++ rest)) nothing) (lt-leb n 2 (more n x y z));
+  plain = λ e. refl;
 }
   where
     more : (n : ℕ) → (n ≡ 0 → ⊥) → (n ≡ 1 → ⊥) → (n ≡ 2 → ⊥) → 2 < n
@@ -224,7 +237,7 @@ unknown k s a b c d e f g h i j l m n o p q r =
 
 pub no-row : (k : ℕ) (t : List ℕ) → (k ≡ 1 → ⊥) → (k ≡ 2 → ⊥) → (k ≡ 3 → ⊥) → (k ≡ 4 → ⊥) → (k ≡ 5 → ⊥) → (k ≡ 6 → ⊥) → (k ≡ 10 → ⊥) → (k ≡ 11 → ⊥) → (k ≡ 12 → ⊥) → (k ≡ 13 → ⊥) →
     (k ≡ 14 → ⊥) → (k ≡ 15 → ⊥) → (k ≡ 20 → ⊥) → (k ≡ 21 → ⊥) → (k ≡ 22 → ⊥) → (k ≡ 23 → ⊥) → (k ≡ 99 → ⊥) → Body k t rows.Nothing
-no-row k t a b c d e f g h i j l m n o p q r = record { is = λ z rest. unknown k (t ++ rest) a b c d e f g h i j l m n o p q r }
+no-row k t a b c d e f g h i j l m n o p q r = record { is = λ rest. unknown k (fit (bodyOf k) t ++ rest) a b c d e f g h i j l m n o p q r; plain = λ z. refl }
 
 pub ruleset bodies = (attribute-row, pointer-row, object-row, group-row, text-row, symbol-row, object-end-row, group-end-row, sequence-row, sequence-end-row, set-row, set-end-row, last-row, integer-row, real-row, moment-row, unit-row, an-integer, a-real, a-moment, unit-of, unit-first, unit-times, unit-divided, unit-none, no-row, needs)
 
@@ -288,13 +301,25 @@ short k s h =
     either (eqb k 99) _ _ (λ e. one-short s 2 _ (l 99 e)) (λ _. refl)))))))))))))))))
 
 module _ (lent : List ℕ) (at : ℕ) where
+  stays-there : (k e : ℕ) → k ≡ getD lent at 0 → e ≡ bodyOf k → length lent ≤ at + e → at ≡ placeAfter lent at
+  stays-there k e q b h = let f : e ≡ bodyOf (getD lent at 0) = b ∙ ap bodyOf q in rw (← f, le-ltb (at + e) (length lent) h)
+
   pub none-past : length lent ≤ at → Reads lent at (record { row = rows.Nothing; next = at })
   unfolding decode
-  none-past h = record { is = ap decode (drop-of-length-le lent h); from = omega arith; within = omega arith; further = λ n. absurd (n refl) }
+  none-past h = record {
+    is = ap decode (drop-of-length-le lent h);
+    plain = λ n. refl;
+    place = stays-there (getD lent at 0) (bodyOf (getD lent at 0)) refl refl (omega arith);
+    from = omega arith;
+    within = omega arith;
+    further = λ n. absurd (n refl);
+  }
 
   pub cut-short : (k e : ℕ) → at < length lent → k ≡ getD lent at 0 → e ≡ bodyOf k → length lent - at ≤ e → Reads lent at (record { row = rows.Nothing; next = at })
   cut-short k e l q b h = record {
     is = ap decode (unroll lent at l) ∙ ap (λ (i : ℕ). decode (i ∷ drop (at + 1) lent)) (sym q) ∙ short k (drop (at + 1) lent) (omega (arith, length-drop (at + 1) lent));
+    plain = λ n. refl;
+    place = stays-there k e q b (omega arith);
     from = omega arith;
     within = omega arith;
     further = λ n. absurd (n refl);
@@ -304,7 +329,9 @@ module _ (lent : List ℕ) (at : ℕ) where
       Reads lent at (record { row = r; next = at + 1 + e })
   whole-row k e r l q b h w = record {
     is = ap decode (unroll lent at l) ∙ ap₂ (λ (i : ℕ) (s : List ℕ). decode (i ∷ s)) (sym q) (sym (joined lent (at + 1) (at + 1 + e) (omega arith)))
-        ∙ w .is (size ∙ b) (drop (at + 1 + e) lent);
+        ∙ ap (λ (s : List ℕ). decode (k ∷ (s ++ drop (at + 1 + e) lent))) (sym (fit-whole (bodyOf k) (part lent (at + 1) (at + 1 + e)) (size ∙ b))) ∙ w .is (drop (at + 1 + e) lent);
+    plain = w .plain;
+    place = let f : e ≡ bodyOf (getD lent at 0) = b ∙ ap bodyOf q in rw (← f, lt-ltb (at + e) (length lent) (omega arith));
     from = omega arith;
     within = omega arith;
     further = λ n. omega arith;

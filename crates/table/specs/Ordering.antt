@@ -12,7 +12,7 @@ use Rattle.rows.specs.declared.Kind as kind
 use Rattle.rows.specs.declared.Kind.the-variants as kinds
 use Rattle.rows.specs.declared.Op as op
 use Rattle.rows.specs.declared.Op.the-variants as ops
-use Rattle.blocks.specs.Stack.{Block, block, blocksOf}
+use Rattle.blocks.specs.Stack.{Block, block, blocksOf, pushOn, popOff}
 use Rattle.blocks.specs.declared.Blocks.{Blocks}
 use Rattle.blocks.specs.declared.Top as top
 use Rattle.blocks.specs.declared.Top.the-variants as tops
@@ -124,7 +124,12 @@ less (k ∷ o) = o
 abbrev pub opensAfter : ℕ → Kinds → Kinds
 opensAfter n o = cond (eqb n 3) (rule.object ∷ o) (cond (eqb n 5) (rule.group ∷ o) (cond (eqb n 4) (less o) (cond (eqb n 6) (less o) o)))
 
+-- the same of the arrays; no name's place is kept
+abbrev pub nestedOn : ℕ → Blocks → Blocks
+nestedOn n b = cond (eqb n 3) (pushOn b kinds.Object 0 0) (cond (eqb n 5) (pushOn b kinds.Group 0 0) (cond (eqb n 4) (popOff b) (cond (eqb n 6) (popOff b) b)))
+
 pub record Nesting (n : ℕ) (b r : Blocks) : Type 0 where
+  pub on : r ≡ nestedOn n b
   pub is : kindsOf r ≡ opensAfter n (kindsOf b)
   pub within : r .depth ≤ 80
 

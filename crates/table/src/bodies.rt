@@ -1,4 +1,4 @@
-// A row out of its body: the bytes of a row after its kind.
+// A row out of its body: the bytes of a row after its kind. A body too short is read as though zeros followed.
 use crate::fields::eight_at;
 use crate::fields::four_at;
 use crate::fields::is_minus;

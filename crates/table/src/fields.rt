@@ -1,4 +1,4 @@
-// Numbers out of the bytes of a row's body: high byte first, and two's complement into a sign and a size.
+// Numbers out of the bytes of a row's body: high byte first, and two's complement into a sign and a size. A body too short is read as though zeros followed.
 use classes::byte_at;
 ghost use mathlib.Core.Path.{_≡_};
 ghost use mathlib.Core.Bool.{cond};

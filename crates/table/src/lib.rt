@@ -1,4 +1,4 @@
-// The check of a table: its rows one after another, each read, its value and its span tested, and its order; and the name that a row shows.
+// The check of a table: its rows one after another, each read, its value and its span tested, and its order; and the row at a place of any table.
 mod fields; // fields.rt: numbers out of bytes
 mod bodies; // bodies.rt: a row out of its body
 mod values; // values.rt: the value of a row
@@ -27,7 +27,8 @@ ghost use Rattle.rows.specs.Rows.{rowsOf};
 ghost use Rattle.table.specs.Decoding.{Reads, passes};
 ghost use Rattle.table.specs.Judging.{Judges};
 
-// A row of the table and the place after it; Nothing where no row is there.
+// A row of the table and the place after it. Where no row is there: Nothing, and the place after as many bytes as a row of that kind has, or the same place where
+// the table has not so many.
 pub struct Got {
     pub row: Row,
     pub next: usize,

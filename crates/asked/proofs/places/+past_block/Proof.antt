@@ -38,7 +38,7 @@ pub +past-block-spec : {M : Type 1} → statement M
     past-block-μ-loop
     (λ c. block-starts _ _ (c .before .pre .1))
     (λ c κs. search needs)
-    (λ c. block-cut _ _ _ (c .before .before .before .loop .inv) _ (c .before .row-at .ensures) (c .if1 .taken))
+    (λ c. block-cut _ _ _ (c .before .before .before .loop .inv) _ (c .before .row-at .ensures) (c .before .before .loop-test .taken) (c .if1 .taken))
     (λ c κs. search needs)
     (λ c. search needs)
     (λ c. search needs)
@@ -53,5 +53,5 @@ pub +past-block-spec : {M : Type 1} → statement M
     (λ c. search needs)
     (λ c. block-closes _ _ _ (c .before .before .before .before .before .before .loop .inv) _ (c .before .before .before .before .row-at .ensures) _ (c .before .before .way-of .ensures) (c .before .before .before .if1 .left) (c .before .before .before .before .before .loop-test .taken) (c .enum-told4 .given .1))
     (λ c. search needs)
-    (λ c. block-ends _ _ _ (c .before .before .before .before .before .before .loop .inv) _ (c .before .before .before .before .row-at .ensures) _ (c .before .before .way-of .ensures) (c .enum-told5 .given .1))
+    (λ c. block-ends _ _ _ (c .before .before .before .before .before .before .loop .inv) _ (c .before .before .before .before .row-at .ensures) _ (c .before .before .way-of .ensures) (c .before .before .before .if1 .left) (c .before .before .before .before .before .loop-test .taken) (c .enum-told5 .given .1))
     (λ c. block-runs-out _ _ _ (c .before .loop .inv) (c .loop-test .left))
