@@ -286,6 +286,7 @@ static void check_texts(void) {
 }
 
 static void check_lookups(void) {
+    static const uint8_t *const name = (const uint8_t *)label + 109;
     CHECK(finds(LABEL, TABLE, "S", 59) == ODL_ACCEPTED && results(0, 121));
     CHECK(finds(LABEL, TABLE, "n", 59) == ODL_ACCEPTED && results(0, 111));
     CHECK(finds(LABEL, TABLE, "n", 5) == ODL_ACCEPTED && results(0, 111));
@@ -298,6 +299,10 @@ static void check_lookups(void) {
     CHECK(finds(label, 106, TABLE, "n", 59) == ODL_IMPROPER_TABLE && results(116, 0));
     CHECK(finds(TOO_LONG, TABLE, "n", 59) == ODL_LABEL_TOO_LONG && results(65535, 0));
     CHECK(untouched());
+    /* A name that is a part of the label: buffers that are read may overlap. */
+    prepare();
+    CHECK(odl_find((const uint8_t *)LABEL, TABLE, name, 1, 59, &place, &length) == ODL_ACCEPTED);
+    CHECK(results(0, 121));
 }
 
 static void check_names(void) {
