@@ -121,7 +121,8 @@ uint8_t odl_write(const uint8_t *label, size_t label_len,
                   size_t *place, size_t *length);
 
 /* Reassembles the text of the row at offset `row` of the table: lines are
- * joined, a hyphen at a line's end goes with it, control bytes are dropped.
+ * joined, a hyphen at a line's end goes with it, control bytes but tabs are
+ * dropped.
  * Codes 0, 1, 11, 12, 15. On 0 the text stands in the first *length bytes of
  * the room; on 11 *length is the room needed, which is never more than the
  * span; else it is 0. *place is 0 but for codes 1 and 12. */
