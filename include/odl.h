@@ -7,19 +7,25 @@
  * Buffers. Every buffer is a pointer and its length in bytes, and the pointer
  * may be NULL where the length is 0. Any bytes are legal in every buffer: what
  * is wrong with them is answered by a code. Nothing is allocated and nothing
- * is kept after the call. `const` buffers are only read. The lent room must
- * not overlap any other buffer. A result is written whole or not at all: on
- * any code but 0 the lent room is untouched, and on 0 it is untouched beyond
- * the reported length. The pointers to results must not be NULL; every call
- * sets all of them.
+ * is kept after the call. `const` buffers are only read, and may overlap one
+ * another. The lent room must not overlap any other buffer. A result is
+ * written whole or not at all: on any code but 0 the lent room is untouched,
+ * and on 0 it is untouched beyond the reported length.
+ *
+ * Results. Every call sets all of them. The pointers to results must not be
+ * NULL, must be distinct, and must point outside all buffers: the lent room and
+ * those that are read.
  *
  * Calls share no state and may run at the same time in many threads, each
- * with its own room. A call needs no more than 64 KiB of stack.
+ * with its own room and results. A call needs no more than 64 KiB of stack;
+ * this is measured (tests/c/stack.c: 20 KB at most), not proved.
  *
  * Time. odl_read takes time in proportion to the label. The other calls judge
  * the whole table first, each time anew, so each takes time in proportion to
- * it. To walk all rows of a table that odl_read has just made, step from row to
- * row as the kinds say: the spans of names stand in the rows.
+ * the table and to all bytes that its spans show. In a table from elsewhere
+ * these may be many: each row may show the whole label. To walk all rows of a
+ * table that odl_read has just made, step from row to row as the kinds say: the
+ * spans of names stand in the rows.
  */
 #ifndef ODL_H
 #define ODL_H
@@ -36,7 +42,8 @@ extern "C" {
 
 /* What a call answers, and the place that comes with it. */
 enum odl_code {
-    ODL_ACCEPTED = 0,         /* past END; for odl_write the written length */
+    ODL_ACCEPTED = 0,         /* past END; for odl_write the written length;
+                                 for odl_text and odl_find 0 */
     ODL_LABEL_TOO_LONG = 1,   /* label over 65,535 bytes: 65535 */
     ODL_BAD_BYTE = 2,         /* a byte that begins no element: that byte; or is
                                  not allowed in its text, symbol or comment:
@@ -54,8 +61,8 @@ enum odl_code {
     ODL_ROOM_TOO_SHORT = 11,  /* lent room too short: as for 0; the length is
                                  the one needed */
     ODL_IMPROPER_TABLE = 12,  /* table not proper over this label: offset of the
-                                 first wrong row, or the table's length if rows
-                                 are lacking */
+                                 first row that is wrong or cut short, or the
+                                 table's length if whole rows are lacking */
     ODL_WRITTEN_TOO_LONG = 13, /* written label over 65,535 bytes: 65535 */
     ODL_NAME_ABSENT = 14,     /* no attribute of that name: 0 */
     ODL_NO_SUCH_ROW = 15      /* not the offset of a row that is asked for: 0 */
@@ -114,7 +121,8 @@ uint8_t odl_write(const uint8_t *label, size_t label_len,
                   size_t *place, size_t *length);
 
 /* Reassembles the text of the row at offset `row` of the table: lines are
- * joined, a hyphen at a line's end goes with it, control bytes are dropped.
+ * joined, a hyphen at a line's end goes with it, control bytes but tabs are
+ * dropped.
  * Codes 0, 1, 11, 12, 15. On 0 the text stands in the first *length bytes of
  * the room; on 11 *length is the room needed, which is never more than the
  * span; else it is 0. *place is 0 but for codes 1 and 12. */

@@ -127,8 +127,9 @@ impl Case {
     /// Compares with ample room, just enough, one short and none.
     pub fn check_rooms(&self) -> Result<usize, String> {
         let needed = self.room_needed();
-        let rooms = [needed + 17, needed, needed.saturating_sub(1), 0];
-        for room in rooms {
+        let mut rooms = vec![needed + 17, needed, needed.saturating_sub(1), 0];
+        rooms.dedup();
+        for &room in &rooms {
             Case {
                 room,
                 ..self.clone()

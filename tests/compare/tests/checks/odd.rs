@@ -39,12 +39,14 @@ fn labels_of(length: usize) -> Vec<Vec<u8>> {
 
 #[test]
 fn longest_labels_agree() {
+    let mut accepted = 0;
     for length in [65_533, 65_534, 65_535, 65_536, 65_537, 70_000, 200_000] {
         for label in labels_of(length) {
             Case::read(&label, 0).check_rooms().unwrap();
             let Ok(read) = odl::read(&label) else {
                 continue;
             };
+            accepted += 1;
             let table = read.into_table().into_bytes();
             assert!(2 * table.len() <= 9 * label.len(), "header: room needed");
             let case = Case::over(Call::Write, &label, &table);
@@ -52,6 +54,7 @@ fn longest_labels_agree() {
             check_rows(&label, &table);
         }
     }
+    assert!(accepted >= 30, "{accepted} labels accepted");
 }
 
 /// All calls at rows near the table's start, near its end and far outside.
@@ -77,16 +80,15 @@ fn check_rows(label: &[u8], table: &[u8]) {
         .chain(far)
         .chain(largest);
     for row in rows {
-        for call in [Call::Text, Call::Find, Call::Name] {
-            let name = b"a".to_vec();
-            Case {
-                row,
-                name,
-                ..Case::over(call, label, table)
-            }
-            .check_rooms()
-            .unwrap();
-        }
+        let at = |call| Case {
+            row,
+            name: b"a".to_vec(),
+            ..Case::over(call, label, table)
+        };
+        at(Call::Text).check_rooms().unwrap();
+        // These two are lent no room.
+        at(Call::Find).check().unwrap();
+        at(Call::Name).check().unwrap();
     }
 }
 
@@ -186,27 +188,6 @@ fn any_name_agrees() {
     }
     for length in [0, 1, 60, 61, 65_535, 65_536, 200_000] {
         find(&vec![b'Z'; length]);
-    }
-}
-
-#[test]
-fn calls_need_little_stack() {
-    const STACK: usize = 64 << 10;
-    let nested = "GROUP=A ".repeat(80) + "B=\"x\" " + &"END_GROUP ".repeat(80) + "C=1 END";
-    let mut labels = labels_of(65_535);
-    labels.push(nested.into_bytes());
-    for label in labels {
-        let table = odl::read(&label).map_or(vec![99, 0, 0], |read| read.into_table().into());
-        let mut room = vec![0; 5 * label.len()];
-        let calls = move || {
-            odl::raw::read(&label, &mut room);
-            odl::raw::write(&label, &table, &mut room);
-            odl::raw::text(&label, &table, 5, &mut room);
-            odl::raw::find(&label, &table, b"C", 0);
-            odl::raw::name(&label, &table, 0);
-        };
-        let thread = std::thread::Builder::new().stack_size(STACK);
-        thread.spawn(calls).unwrap().join().unwrap();
     }
 }
 

@@ -23,30 +23,36 @@ fn good_labels_are_accepted() {
 #[test]
 fn room_is_used_only_on_success() {
     let mut random = Random::new(2);
+    let mut accepted = 0;
     for _ in 0..LABELS {
         let label = random::label(&mut random);
         let (answer, table) = reading(&label);
         assert!(answer.place <= label.len().min(LONGEST_LABEL));
         match answer.code {
             0 => {
+                accepted += 1;
                 check_exact_room(|room| read(&label, room));
                 assert_eq!(offset(&table[table.len() - 2..]), answer.place);
             }
             _ => assert_eq!(answer.length, 0),
         }
     }
+    assert!(accepted > LABELS / 4 && accepted < LABELS * 3 / 4);
 }
 
 #[test]
 fn only_what_stands_up_to_end_counts() {
     let mut random = Random::new(3);
+    let mut longer = 0;
     for _ in 0..LABELS {
         let label = random::good_label(&mut random);
         let (answer, table) = reading(&label);
         if answer.code == 0 {
+            longer += usize::from(answer.place < label.len());
             assert_eq!(reading(&label[..answer.place]), (answer, table));
         }
     }
+    assert!(longer > LABELS / 4);
 }
 
 /// The rows without the last one's offset, spans replaced by what they mean.
@@ -71,6 +77,7 @@ fn meaning(label: &[u8], table: &[u8]) -> Vec<Vec<u8>> {
 #[test]
 fn written_labels_read_back_with_the_same_meaning() {
     let mut random = Random::new(4);
+    let mut written_back = 0;
     for _ in 0..LABELS {
         let label = random::good_label(&mut random);
         let (answer, table) = reading(&label);
@@ -79,6 +86,7 @@ fn written_labels_read_back_with_the_same_meaning() {
         if label.len() > 10_000 || answer.code != 0 || written_answer.code != 0 {
             continue;
         }
+        written_back += 1;
         let (again, table_again) = reading(&written);
         assert_eq!((again.code, again.place), (0, written.len() - 2));
         assert_eq!(meaning(&written, &table_again), meaning(&label, &table));
@@ -87,6 +95,7 @@ fn written_labels_read_back_with_the_same_meaning() {
             assert_eq!(relabel(&label), written);
         }
     }
+    assert!(written_back > LABELS * 9 / 10);
 }
 
 #[test]
@@ -130,16 +139,19 @@ fn check_found(case: &random::TableCase, code: u8, at: usize) {
 #[test]
 fn improper_tables_are_proper_before_their_place() {
     let mut random = Random::new(6);
+    let mut improper = 0;
     for _ in 0..TABLES {
         let case = random::table_case(&mut random);
         let (answer, _) = writing(&case.label, &case.table);
         if answer.code == 12 {
+            improper += 1;
             // Cut off there, the rows are faultless: they lack their end, or
             // they have it and what follows was too much.
             let cut = writing(&case.label, &case.table[..answer.place]).0;
             assert!(cut.code != 12 || cut.place == answer.place);
         }
     }
+    assert!(improper > TABLES / 5);
 }
 
 #[test]

@@ -47,6 +47,7 @@ fn parsed_answer(text: &str) -> Answer {
 #[test]
 fn the_model_gives_every_listed_answer() {
     let mut wrong = Vec::new();
+    assert!(examples().count() > 200);
     for example in examples() {
         let (answer, table) = reading(&example.label);
         let same_rows = match answer.code {

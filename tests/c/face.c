@@ -1,0 +1,386 @@
+/* Calls every function through include/odl.h: the header's numbers, the
+ * answers and the lent room against values worked out by hand from the
+ * documents. Each number of the header comes back from a real call. */
+#include <stdio.h>
+#include <string.h>
+
+#include "odl.h"
+
+static unsigned passed, failed;
+
+static void check(int holds, const char *what, int line) {
+    if (holds) {
+        passed++;
+    } else {
+        failed++;
+        printf("failed: line %d: %s\n", line, what);
+    }
+}
+
+#define CHECK(holds) check((holds), #holds, __LINE__)
+
+/* The lent room, with bytes on either side of it that are not lent. All of it
+ * holds a pattern before each call, so that a byte moved or cleared shows. */
+#define AROUND 64
+#define LONGEST_ROOM 1024
+static uint8_t memory[AROUND + LONGEST_ROOM + AROUND];
+static uint8_t *const room = memory + AROUND;
+
+static uint8_t pattern(size_t at) {
+    return (uint8_t)(at * 37 ^ at >> 8 ^ 0xA5);
+}
+
+/* True if the room holds these bytes and nothing else was touched. */
+static int holds(const void *bytes, size_t length) {
+    size_t at;
+    for (at = 0; at < sizeof memory; at++) {
+        int inside = at >= AROUND && at < AROUND + length;
+        uint8_t expected = inside ? ((const uint8_t *)bytes)[at - AROUND] : pattern(at);
+        if (memory[at] != expected) {
+            return 0;
+        }
+    }
+    return 1;
+}
+
+static int untouched(void) {
+    return holds(NULL, 0);
+}
+
+/* The two results of the last call; every call must set both. */
+#define UNSET ((size_t)-77)
+static size_t place, length;
+
+static void prepare(void) {
+    size_t at;
+    for (at = 0; at < sizeof memory; at++) {
+        memory[at] = pattern(at);
+    }
+    place = length = UNSET;
+}
+
+static int results(size_t wanted_place, size_t wanted_length) {
+    return place == wanted_place && length == wanted_length;
+}
+
+/* Which codes each function has answered, one bit for each. */
+static unsigned long read_codes, write_codes, text_codes, find_codes;
+
+static uint8_t noted(unsigned long *codes, uint8_t code) {
+    *codes |= 1ul << code;
+    return code;
+}
+
+static uint8_t reads(const void *label, size_t label_len, size_t room_len) {
+    prepare();
+    return noted(&read_codes, odl_read(label, label_len, room, room_len, &place, &length));
+}
+
+static uint8_t writes(const void *label, size_t label_len, const uint8_t *table, size_t table_len,
+                      size_t room_len) {
+    prepare();
+    return noted(&write_codes,
+                 odl_write(label, label_len, table, table_len, room, room_len, &place, &length));
+}
+
+static uint8_t texts(const void *label, size_t label_len, const uint8_t *table, size_t table_len,
+                     size_t row, size_t room_len) {
+    prepare();
+    return noted(&text_codes, odl_text(label, label_len, table, table_len, row, room, room_len,
+                                       &place, &length));
+}
+
+/* `length` is the offset of the row that is found. */
+static uint8_t finds(const void *label, size_t label_len, const uint8_t *table, size_t table_len,
+                     const char *name, size_t row) {
+    prepare();
+    return noted(&find_codes, odl_find(label, label_len, table, table_len, (const uint8_t *)name,
+                                       strlen(name), row, &place, &length));
+}
+
+/* `place` and `length` are start and end of the name. */
+static void names(const void *label, size_t label_len, const uint8_t *table, size_t table_len,
+                  size_t row) {
+    prepare();
+    odl_name(label, label_len, table, table_len, row, &place, &length);
+}
+
+/* A label with a row of every kind. The comments count its bytes. */
+static const char label[] =
+    "OBJECT=cam\n"                                /* 0: name 7 to 10 */
+    "GROUP=g\n"                                   /* 11: name 17 to 18 */
+    "^p=(-2<m*s/k**-3>,1.50)\n"                   /* 19: name 20 to 21, units 26, 28, 30 */
+    "END_GROUP\n"                                 /* 43 */
+    "t={1990-158,10:00-00:30,1990-07T1:2:3.5}\n"  /* 53: name 53 to 54 */
+    "n=\"Jupi-\n ter\"\n"                         /* 94: name 94 to 95, text 97 to 107 */
+    "s='a b'\n"                                   /* 109: name 109 to 110, symbol 112 to 115 */
+    "END_OBJECT\n"                                /* 117 */
+    "END";                                        /* 128 */
+#define LABEL label, sizeof label - 1
+
+/* Its table; the comments count the bytes. 1990 is 7 * 256 + 198, day 158 of
+ * it is 7 June, 500,000,000 is 1DCD6500 in hex. */
+static const uint8_t table[] = {
+    ODL_OBJECT, 0, 7, 0, 10,                                           /* 0 */
+    ODL_GROUP, 0, 17, 0, 18,                                           /* 5 */
+    ODL_POINTER, 0, 20, 0, 21,                                         /* 10 */
+    ODL_SEQUENCE,                                                      /* 15 */
+    ODL_INTEGER, 255, 255, 255, 255, 255, 255, 255, 254,               /* 16 */
+    ODL_UNIT, ODL_FIRST, 0, 26, 0, 27, 1,                              /* 25 */
+    ODL_UNIT, ODL_TIMES, 0, 28, 0, 29, 1,                              /* 32 */
+    ODL_UNIT, ODL_DIVIDED, 0, 30, 0, 31, 253,                          /* 39 */
+    ODL_REAL, 0, 0, 0, 0, 0, 0, 0, 15, 255, 255,                       /* 46 */
+    ODL_END_SEQUENCE,                                                  /* 57 */
+    ODL_END_GROUP,                                                     /* 58 */
+    ODL_ATTRIBUTE, 0, 53, 0, 54,                                       /* 59 */
+    ODL_SET,                                                           /* 64 */
+    ODL_TIME, ODL_DATE_ONLY, 7, 198, 6, 7, 0, 0, 0, 0, 0, 0, 0, 0, 0,  /* 65 */
+    ODL_TIME, ODL_TIME_ONLY, 0, 0, 0, 0, 10, 0, 0, 0, 0, 0, 0, 255, 226, /* 80 */
+    ODL_TIME, ODL_DATE_AND_TIME, 7, 198, 1, 7, 1, 2, 3, 0x1D, 0xCD, 0x65, 0, 0, 0, /* 95 */
+    ODL_END_SET,                                                       /* 110 */
+    ODL_ATTRIBUTE, 0, 94, 0, 95,                                       /* 111 */
+    ODL_TEXT, 0, 97, 0, 107,                                           /* 116 */
+    ODL_ATTRIBUTE, 0, 109, 0, 110,                                     /* 121 */
+    ODL_SYMBOL, 0, 112, 0, 115,                                        /* 126 */
+    ODL_END_OBJECT,                                                    /* 131 */
+    ODL_LAST, 0, 131,                                                  /* 132 */
+};
+#define TABLE table, sizeof table
+
+/* The same rows by number, so that the header's numbers are the documents'. */
+static const uint8_t kinds[] = {3,  5,  2,  20, 10, 15, 15, 15, 11, 21, 6, 1,
+                                22, 12, 12, 12, 23, 1,  13, 1,  14, 4,  99};
+static const size_t offsets[] = {0,  5,  10, 15, 16,  25,  32,  39,  46,  57,  58, 59,
+                                 64, 65, 80, 95, 110, 111, 116, 121, 126, 131, 132};
+#define ROWS (sizeof kinds)
+
+static const char canonical[] =
+    "OBJECT = CAM\r\n"
+    "  GROUP = G\r\n"
+    "    ^P = (-2 <M*S/K**-3>, 15.E-1)\r\n"
+    "  END_GROUP = G\r\n"
+    "  T = {1990-06-07, 10:00:00-00:30, 1990-01-07T01:02:03.5Z}\r\n"
+    "  N = \"Jupiter\"\r\n"
+    "  S = 'A B'\r\n"
+    "END_OBJECT = CAM\r\n"
+    "END\r\n";
+#define WRITTEN (sizeof canonical - 1)
+
+/* A label one byte too long. One byte shorter, with END last, it is right. */
+static uint8_t longest[ODL_LONGEST_LABEL + 1];
+#define TOO_LONG longest, sizeof longest
+
+static void check_row_numbers(void) {
+    size_t row;
+    CHECK(reads(LABEL, LONGEST_ROOM) == 0);
+    for (row = 0; row < ROWS; row++) {
+        CHECK(room[offsets[row]] == kinds[row]);
+    }
+    CHECK(room[26] == 0 && room[33] == 1 && room[40] == 2); /* joints */
+    CHECK(room[66] == 1 && room[81] == 2 && room[96] == 3); /* parts */
+}
+
+static void check_accepted_reading(void) {
+    CHECK(sizeof label - 1 == 131 && sizeof table == 135);
+    CHECK(reads(LABEL, LONGEST_ROOM) == ODL_ACCEPTED);
+    CHECK(results(131, 135) && holds(TABLE));
+    CHECK(reads(LABEL, 135) == ODL_ACCEPTED);
+    CHECK(results(131, 135) && holds(TABLE));
+    CHECK(reads(LABEL, 134) == ODL_ROOM_TOO_SHORT);
+    CHECK(results(131, 135) && untouched());
+    CHECK(reads("END and more", 12, 3) == ODL_ACCEPTED);
+    CHECK(results(3, 3) && holds("\x63\0\x03", 3));
+
+    memset(longest, ' ', sizeof longest);
+    memcpy(longest + ODL_LONGEST_LABEL - 3, "END", 3);
+    CHECK(reads(longest, ODL_LONGEST_LABEL, LONGEST_ROOM) == ODL_ACCEPTED);
+    CHECK(results(65535, 3) && holds("\x63\xFF\xFF", 3));
+    CHECK(reads(TOO_LONG, LONGEST_ROOM) == ODL_LABEL_TOO_LONG);
+    CHECK(results(65535, 0) && untouched());
+}
+
+/* A refused label, the name and the number of its code, and the place. */
+struct refusal {
+    const char *label;
+    enum odl_code code;
+    uint8_t number;
+    size_t place;
+};
+
+static void check_refused_readings(void) {
+    static const struct refusal refusals[] = {
+        {"A=& END", ODL_BAD_BYTE, 2, 2},
+        {"A=\"x\x80\" END", ODL_BAD_BYTE, 2, 2},
+        {"A=1 /*/ END", ODL_LEFT_OPEN, 3, 4},
+        {"A='' END", ODL_NO_FORM, 4, 2},
+        {"A=1990-366 END", ODL_PAST_LIMIT, 5, 2},
+        {"A=() END", ODL_MISPLACED, 6, 3},
+        {"OBJECT=X END_OBJECT=Y END", ODL_OTHER_NAME, 7, 20},
+        {"END;", ODL_END_NOT_SET_OFF, 9, 0},
+        {"A=1 ", ODL_ENDS_EARLY, 10, 4},
+    };
+    char nested[81 * 9 + 1] = "";
+    size_t at;
+    for (at = 0; at < sizeof refusals / sizeof *refusals; at++) {
+        const struct refusal *it = &refusals[at];
+        uint8_t code = reads(it->label, strlen(it->label), LONGEST_ROOM);
+        CHECK(code == it->code && code == it->number);
+        CHECK(results(it->place, 0) && untouched());
+    }
+    /* 80 blocks are right, so the fault is at the word of the 81st. */
+    for (at = 0; at < 81; at++) {
+        strcat(nested, "OBJECT=X ");
+    }
+    CHECK(reads(nested, 81 * 9, LONGEST_ROOM) == ODL_TOO_DEEP);
+    CHECK(results(80 * 9, 0) && untouched());
+    CHECK(reads(nested, 80 * 9, LONGEST_ROOM) == ODL_ENDS_EARLY);
+    CHECK(results(80 * 9, 0) && untouched());
+}
+
+static void check_writing(void) {
+    /* An attribute and a text over 9,999 bytes are written in 10,007. */
+    static uint8_t wide[10000];
+    static uint8_t rows[7 * 10 + 3];
+    static const uint8_t row[] = {ODL_ATTRIBUTE, 0, 0, 0, 1, ODL_TEXT, 0, 1, 0x27, 0x10};
+    size_t at;
+    CHECK(writes(LABEL, TABLE, LONGEST_ROOM) == ODL_ACCEPTED);
+    CHECK(results(WRITTEN, WRITTEN) && holds(canonical, WRITTEN));
+    CHECK(writes(LABEL, TABLE, WRITTEN) == ODL_ACCEPTED);
+    CHECK(results(WRITTEN, WRITTEN) && holds(canonical, WRITTEN));
+    CHECK(writes(LABEL, TABLE, WRITTEN - 1) == ODL_ROOM_TOO_SHORT);
+    CHECK(results(WRITTEN, WRITTEN) && untouched());
+    CHECK(writes(LABEL, table, sizeof table - 3, LONGEST_ROOM) == ODL_IMPROPER_TABLE);
+    CHECK(results(132, 0) && untouched()); /* the last row is lacking */
+    CHECK(writes(label, 106, TABLE, LONGEST_ROOM) == ODL_IMPROPER_TABLE);
+    CHECK(results(116, 0) && untouched()); /* the text ends past the label */
+    CHECK(writes(TOO_LONG, TABLE, LONGEST_ROOM) == ODL_LABEL_TOO_LONG);
+    CHECK(results(65535, 0) && untouched());
+
+    memset(wide, 'A', sizeof wide);
+    for (at = 0; at < 7; at++) {
+        memcpy(rows + 10 * at, row, 10);
+    }
+    rows[70] = ODL_LAST;
+    CHECK(writes(wide, sizeof wide, rows, sizeof rows, LONGEST_ROOM) == ODL_WRITTEN_TOO_LONG);
+    CHECK(results(65535, 0) && untouched());
+    rows[60] = ODL_LAST; /* one text less: six lines of 10,007 bytes, and END's 5 */
+    CHECK(writes(wide, sizeof wide, rows, 63, LONGEST_ROOM) == ODL_ROOM_TOO_SHORT);
+    CHECK(results(60047, 60047) && untouched());
+}
+
+static void check_texts(void) {
+    CHECK(texts(LABEL, TABLE, 116, LONGEST_ROOM) == ODL_ACCEPTED);
+    CHECK(results(0, 7) && holds("Jupiter", 7));
+    CHECK(texts(LABEL, TABLE, 116, 7) == ODL_ACCEPTED);
+    CHECK(results(0, 7) && holds("Jupiter", 7));
+    CHECK(texts(LABEL, TABLE, 116, 6) == ODL_ROOM_TOO_SHORT);
+    CHECK(results(0, 7) && untouched());
+    CHECK(texts(LABEL, TABLE, 126, LONGEST_ROOM) == ODL_NO_SUCH_ROW);
+    CHECK(results(0, 0) && untouched());
+    CHECK(texts(LABEL, TABLE, 117, LONGEST_ROOM) == ODL_NO_SUCH_ROW);
+    CHECK(results(0, 0) && untouched());
+    CHECK(texts(LABEL, table, sizeof table - 1, 116, LONGEST_ROOM) == ODL_IMPROPER_TABLE);
+    CHECK(results(132, 0) && untouched()); /* the last row is cut short */
+    CHECK(texts(TOO_LONG, TABLE, 116, LONGEST_ROOM) == ODL_LABEL_TOO_LONG);
+    CHECK(results(65535, 0) && untouched());
+}
+
+static void check_lookups(void) {
+    static const uint8_t *const name = (const uint8_t *)label + 109;
+    CHECK(finds(LABEL, TABLE, "S", 59) == ODL_ACCEPTED && results(0, 121));
+    CHECK(finds(LABEL, TABLE, "n", 59) == ODL_ACCEPTED && results(0, 111));
+    CHECK(finds(LABEL, TABLE, "n", 5) == ODL_ACCEPTED && results(0, 111));
+    CHECK(finds(LABEL, TABLE, "n", 121) == ODL_NAME_ABSENT && results(0, 0));
+    CHECK(finds(LABEL, TABLE, "n", 0) == ODL_NAME_ABSENT && results(0, 0));
+    CHECK(finds(LABEL, TABLE, "n", 10) == ODL_NAME_ABSENT && results(0, 0));
+    CHECK(finds(LABEL, TABLE, "n", 131) == ODL_NAME_ABSENT && results(0, 0));
+    CHECK(finds(LABEL, TABLE, "n", 132) == ODL_NAME_ABSENT && results(0, 0));
+    CHECK(finds(LABEL, TABLE, "n", 116) == ODL_NO_SUCH_ROW && results(0, 0));
+    CHECK(finds(label, 106, TABLE, "n", 59) == ODL_IMPROPER_TABLE && results(116, 0));
+    CHECK(finds(TOO_LONG, TABLE, "n", 59) == ODL_LABEL_TOO_LONG && results(65535, 0));
+    CHECK(untouched());
+    /* A name that is a part of the label: buffers that are read may overlap. */
+    prepare();
+    CHECK(odl_find((const uint8_t *)LABEL, TABLE, name, 1, 59, &place, &length) == ODL_ACCEPTED);
+    CHECK(results(0, 121));
+}
+
+static void check_names(void) {
+    names(LABEL, TABLE, 0);
+    CHECK(results(7, 10)); /* OBJECT */
+    names(LABEL, TABLE, 5);
+    CHECK(results(17, 18)); /* GROUP */
+    names(LABEL, TABLE, 10);
+    CHECK(results(20, 21)); /* pointer */
+    names(LABEL, TABLE, 39);
+    CHECK(results(30, 31)); /* unit */
+    names(LABEL, TABLE, 121);
+    CHECK(results(109, 110)); /* attribute */
+    names(LABEL, TABLE, 126);
+    CHECK(results(112, 115)); /* symbol */
+    names(LABEL, TABLE, 116);
+    CHECK(results(0, 0)); /* a text has no name */
+    names(LABEL, TABLE, 127);
+    CHECK(results(0, 0));
+    names(label, 106, TABLE, 0);
+    CHECK(results(0, 0));
+    names(TOO_LONG, TABLE, 0);
+    CHECK(results(0, 0));
+}
+
+static void check_null(void) {
+    static const uint8_t last[] = {ODL_LAST, 0, 0};
+    prepare();
+    CHECK(odl_read(NULL, 0, NULL, 0, &place, &length) == ODL_ENDS_EARLY && results(0, 0));
+    prepare();
+    CHECK(odl_write(NULL, 0, NULL, 0, NULL, 0, &place, &length) == ODL_IMPROPER_TABLE);
+    CHECK(results(0, 0));
+    prepare();
+    CHECK(odl_write(NULL, 0, last, 3, room, 5, &place, &length) == ODL_ACCEPTED);
+    CHECK(results(5, 5) && holds("END\r\n", 5));
+    prepare();
+    CHECK(odl_text(NULL, 0, last, 3, 0, NULL, 0, &place, &length) == ODL_NO_SUCH_ROW);
+    CHECK(results(0, 0));
+    prepare();
+    CHECK(odl_find(NULL, 0, last, 3, NULL, 0, 0, &place, &length) == ODL_NAME_ABSENT);
+    CHECK(results(0, 0));
+    prepare();
+    odl_name(NULL, 0, NULL, 0, 0, &place, &length);
+    CHECK(results(0, 0));
+}
+
+/* The bits of these codes; the list ends with 99. */
+static unsigned long bits(const int *codes) {
+    unsigned long all = 0;
+    for (; *codes != 99; codes++) {
+        all |= 1ul << *codes;
+    }
+    return all;
+}
+
+/* Every code that the header says a function has was answered by it above,
+ * and no other. */
+static void check_codes_answered(void) {
+    static const int reading[] = {0, 1, 2, 3, 4, 5, 6, 7, 8, 9, 10, 11, 99};
+    static const int writing[] = {0, 1, 11, 12, 13, 99};
+    static const int text[] = {0, 1, 11, 12, 15, 99};
+    static const int lookup[] = {0, 1, 12, 14, 15, 99};
+    CHECK(read_codes == bits(reading));
+    CHECK(write_codes == bits(writing));
+    CHECK(text_codes == bits(text));
+    CHECK(find_codes == bits(lookup));
+}
+
+int main(void) {
+    check_accepted_reading();
+    check_row_numbers();
+    check_refused_readings();
+    check_writing();
+    check_texts();
+    check_lookups();
+    check_names();
+    check_null();
+    check_codes_answered();
+    printf("%u passed, %u failed\n", passed, failed);
+    return failed != 0;
+}
