@@ -3,3 +3,4 @@ pub mod Gaps
 pub mod Quotes
 pub mod Words
 pub mod Finding
+pub mod Once

@@ -13,6 +13,7 @@ use Rattle.rules.proofs.Words.Shapes.{any, g-after, g-signs, g-word}
 use Rattle.classes.specs.Places.{ByteAt}
 use Rattle.forms.specs.declared.Form.{Form}
 use Rattle.forms.specs.declared.Form.the-variants.{NoForm, Name}
+use Rattle.forms.specs.Laid.{SignTo, a-minus, a-plus, no-sign, no-form, name}
 use Rattle.forms.specs.Forms.{Reads, Signed, minus, plus, unsigned}
 use Rattle.rules.specs.Modes.{base}
 use Rattle.rules.proofs.Words.Identifiers.{more, identifier-pass}
@@ -34,15 +35,21 @@ module _ (w : List ℕ) (x : ℕ) (y : ByteAt w 0 x) (t : Bool) (k : t ≡ lette
       go (b ∷ s) e = omega arith
 
   pub shape-name : (u : Bool) → t ≡ true → u ≡ more false (drop 1 w) → u ≡ true → Reads (g-word base) w 0 Name
-  shape-name u h e f = r-yes w 0 Name (lettered true h) (record { reads = rw (identifier-pass w, lettered true h, sym e ∙ f) })
+  shape-name u h e f = r-yes w 0 Name (lettered true h) (record { reads = rw (identifier-pass w, lettered true h, sym e ∙ f); laid = name })
 
   pub shape-unnamed : (u : Bool) → t ≡ true → u ≡ more false (drop 1 w) → u ≡ false → Reads (g-word base) w 0 NoForm
-  shape-unnamed u h e f = r-yes w 0 NoForm (lettered true h) (record { reads = rw (identifier-pass w, lettered true h, sym e ∙ f) })
+  shape-unnamed u h e f = r-yes w 0 NoForm (lettered true h) (record { reads = rw (identifier-pass w, lettered true h, sym e ∙ f); laid = no-form })
 
   pub sign-there : {n : ℕ} → Signed x n → n ≤ length w
   sign-there (minus q) = omega (arith, y .inside)
   sign-there (plus n q) = omega (arith, y .inside)
   sign-there (unsigned n n₂) = omega arith
+
+  -- the digits begin behind the sign
+  pub sign-laid : {n : ℕ} → Signed x n → SignTo w 0 (eqb x 45) n
+  sign-laid (minus q) = rw (eq-eqb x 45 q) (a-minus (sym (y .is) ∙ q))
+  sign-laid (plus n q) = rw (ne-eqb x 45 n) (a-plus (sym (y .is) ∙ q))
+  sign-laid (unsigned n n₂) = rw (ne-eqb x 45 n) (no-sign (λ z. n (y .is ∙ z)) (λ z. n₂ (y .is ∙ z)))
 
   abbrev Numbered : ℕ → Bool → Form → Type 0
   Numbered n neg r = Reads (run digit any (g-after base (not (eqb n 0)) neg)) w n r

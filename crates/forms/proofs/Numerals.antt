@@ -15,6 +15,7 @@ use Rattle.rules.proofs.Words.Shapes.{is, g-minutes, g-days, marked, some-of, a
 use Rattle.classes.specs.Places.{part, EndsAt, ByteAt}
 use Rattle.forms.specs.declared.Form.{Form}
 use Rattle.forms.specs.declared.Form.the-variants.{NoForm, Whole as WholeF, Radix, Decimal}
+use Rattle.forms.specs.Laid.{SignTo, BasedTo, MantissaTo, PowerTo, whole, radix, unscaled, scaled}
 use Rattle.forms.specs.Forms.{Reads, on, stamped, inRadix, inPower, g-pointed, g-plain}
 use Rattle.classes.proofs.Runs.{unroll}
 use Rattle.forms.specs.declared.Span.{Span}
@@ -50,10 +51,10 @@ module _ (w : List ℕ) (r : Span) (neg : Bool) (at e : ℕ) (d : EndsAt (front 
         let m : e < length w = omega (arith, y .inside) in
         r-run w at e NoForm d some-here (r-byte w e 35 NoForm m (sym (y .is) ∙ q) (r-trailing w (e + 1) (omega arith)))
 
-    pub radix-ends : x ≡ 35 → e + 1 ≡ length w → InRadix (Radix r neg (record { from = at; upto = e }))
-    radix-ends q k =
+    pub radix-ends : BasedTo w r neg at → x ≡ 35 → e + 1 ≡ length w → InRadix (Radix r neg (record { from = at; upto = e }))
+    radix-ends b q k =
         let m : e < length w = omega (arith, y .inside) in
-        r-run w at e _ d some-here (r-byte w e 35 _ m (sym (y .is) ∙ q) (r-stop w (e + 1) _ k refl))
+        r-run w at e _ d some-here (r-byte w e 35 _ m (sym (y .is) ∙ q) (r-stop w (e + 1) _ k refl (radix b d)))
 
 module _ (w : List ℕ) (r : Span) (at x : ℕ) (f : Form) (y : ByteAt w at x) where
   abbrev Based : Type 0
@@ -80,8 +81,8 @@ module _ (w : List ℕ) (neg below : Bool) (at e : ℕ) (d : EndsAt (front digit
   pub power-more : (ds fs : List ℕ) → (e ≡ at → ⊥) → (e ≡ length w → ⊥) → Power ds fs NoForm
   power-more ds fs n k = r-run w at e NoForm d (le-leb 1 (e - at) (omega (arith, d .from))) (r-trailing w e (omega (arith, d .within)))
 
-  pub power-ends : (ds fs : Span) → (e ≡ at → ⊥) → e ≡ length w → Power (on w ds) (on w fs) (Decimal neg ds fs below (record { from = at; upto = e }))
-  power-ends ds fs n k = r-run w at e _ d (le-leb 1 (e - at) (omega (arith, d .from))) (r-stop w e _ k refl)
+  pub power-ends : (ds fs : Span) → PowerTo w neg ds fs below at → (e ≡ at → ⊥) → e ≡ length w → Power (on w ds) (on w fs) (Decimal neg ds fs below (record { from = at; upto = e }))
+  power-ends ds fs p n k = r-run w at e _ d (le-leb 1 (e - at) (omega (arith, d .from))) (r-stop w e _ k refl (scaled p d))
 
 module _ (w : List ℕ) (neg : Bool) (ds fs : List ℕ) (at : ℕ) where
   abbrev signs : Bool → Bool → G
@@ -104,8 +105,8 @@ module _ (w : List ℕ) (neg : Bool) (ds fs : List ℕ) (at : ℕ) where
     pub scale-power : (r : Form) → not t ≡ false → Reads (g-integer (a-decimal neg ds fs)) w (at + 1) r → Reads (g-scale (a-decimal neg ds fs)) w at r
     scale-power r n g = let m : at < length w = omega arith in r-more w at r m (r-mark w at r m (sym e ∙ not-false t n) g)
 
-pub scale-ends : (w : List ℕ) (neg : Bool) (ds fs : Span) (at : ℕ) → at ≡ length w → Reads (g-scale (a-decimal neg (on w ds) (on w fs))) w at (Decimal neg ds fs false (record { from = 0; upto = 0 }))
-scale-ends w neg ds fs at h = r-nil w at _ h (r-stop w at _ h refl)
+pub scale-ends : (w : List ℕ) (neg : Bool) (ds fs : Span) (at : ℕ) → MantissaTo w neg ds fs at → at ≡ length w → Reads (g-scale (a-decimal neg (on w ds) (on w fs))) w at (Decimal neg ds fs false (record { from = 0; upto = 0 }))
+scale-ends w neg ds fs at m h = r-nil w at _ h (r-stop w at _ h refl (unscaled m h))
 
 module _ (w : List ℕ) (neg : Bool) (from at e : ℕ) (ok : (from ≤ at) × (at < length w)) (d : EndsAt (front digit) w (at + 1) e) where
   abbrev Pointed : Form → Type 0
@@ -185,7 +186,7 @@ paired neg ds g h (a ∷ b ∷ s) = go (eqb a 46) (eqb b 46) refl
 
 r-pair : (neg : Bool) (ds : List ℕ) {g h : G} (w : List ℕ) (at : ℕ) (r : Form) → Reads (fork (is 46) (byte 46 (g-pointed neg ds)) h) w at r →
     Reads (fork (pair 46 46) (check false g) (fork (is 46) (byte 46 (g-pointed neg ds)) h)) w at r
-r-pair neg ds {g} {h} w at r s = record { reads = paired neg ds g h (drop at w) ∙ s .reads }
+r-pair neg ds {g} {h} w at r s = record { reads = paired neg ds g h (drop at w) ∙ s .reads; laid = s .laid }
 
 module _ (w : List ℕ) (neg : Bool) (from at : ℕ) (d : EndsAt (front digit) w from at) where
   abbrev Numbered : Form → Type 0
@@ -194,8 +195,8 @@ module _ (w : List ℕ) (neg : Bool) (from at : ℕ) (d : EndsAt (front digit) w
   pub number-none : at ≡ length w → at ≡ from → Numbered NoForm
   number-none h q = r-run w from at NoForm d refl (r-nil w at NoForm h (r-fails w at (none-of w from at (d .within) q)))
 
-  pub number-whole : at ≡ length w → (at ≡ from → ⊥) → Numbered (WholeF neg (record { from = from; upto = at }))
-  number-whole h n = r-run w from at _ d refl (r-nil w at _ h (r-check w at _ (some-are w from at (d .from) (d .within) n) (r-stop w at _ h refl)))
+  pub number-whole : SignTo w 0 neg from → at ≡ length w → (at ≡ from → ⊥) → Numbered (WholeF neg (record { from = from; upto = at }))
+  number-whole s h n = r-run w from at _ d refl (r-nil w at _ h (r-check w at _ (some-are w from at (d .from) (d .within) n) (r-stop w at _ h refl (whole s d))))
 
   module _ (not-end : at ≡ length w → ⊥) where
     inside : at < length w

@@ -15,15 +15,13 @@ use Rattle.forms.specs.declared.Clock.{Clock}
 use Rattle.forms.specs.declared.Stamp.{Stamp}
 use Rattle.forms.specs.declared.Form.{Form}
 use Rattle.forms.specs.declared.Form.the-variants.{NoForm, Moment, Day}
+use Rattle.forms.specs.Laid.{Digits, DateTo, Unzoned, OffsetTo, day, no-offset, by-hour, by-minute}
 use Rattle.forms.specs.Forms.{timeOf, Reads, on, stamped, dateOf, atSecond, g-decimals, inMonth}
 use Rattle.forms.specs.declared.Span.{Span}
 use Rattle.forms.specs.declared.Date.{Date}
 use Rattle.forms.specs.declared.Date.the-variants.{InYear, InMonth}
 use Rattle.forms.specs.declared.Stamp.the-variants.{Dated}
 use Rattle.forms.proofs.Reading.{part-length, r-stop, r-trailing, r-byte, r-other, r-check, r-fails, r-run, r-short, r-is, r-isnt, r-nil, r-more}
-
-abbrev Digits : List ℕ → ℕ → ℕ → Type 0
-Digits w at e = EndsAt (front digit) w at e
 
 -- a byte that is there
 there : (w : List ℕ) (at x k : ℕ) → 0 < k → ByteAt w at x → x ≡ k → at < length w
@@ -38,9 +36,9 @@ module _ (w : List ℕ) (s : Stamp) (c : Clock) (west : Bool) (at : ℕ) where
   pub offset-few : (e : ℕ) (t : Bool) → EndsAt (front digit) w at e → t ≡ between 1 2 (e - at) → not t ≡ true → Offset NoForm
   offset-few e t r h k = r-short w at e r (sym h ∙ not-true t k)
 
-  pub offset-hour : (e : ℕ) (t : Bool) → EndsAt (front digit) w at e → t ≡ between 1 2 (e - at) → not t ≡ false → e ≡ length w →
+  pub offset-hour : (e : ℕ) (t : Bool) → OffsetTo w s c west at → EndsAt (front digit) w at e → t ≡ between 1 2 (e - at) → not t ≡ false → e ≡ length w →
       Offset (Moment s c (record { west = west; hours = record { from = at; upto = e }; minutes = record { from = 0; upto = 0 } }))
-  offset-hour e t r h k q = r-run w at e _ r (sym h ∙ not-false t k) (r-nil w e _ q (r-stop w e _ q refl))
+  offset-hour e t o r h k q = r-run w at e _ r (sym h ∙ not-false t k) (r-nil w e _ q (r-stop w e _ q refl (by-hour o r q)))
 
   pub offset-open : (e x : ℕ) (t : Bool) → EndsAt (front digit) w at e → t ≡ between 1 2 (e - at) → not t ≡ false → (e ≡ length w → ⊥) → ByteAt w e x → (x ≡ 58 → ⊥) → Offset NoForm
   offset-open e x t r h k q y n =
@@ -60,12 +58,12 @@ module _ (w : List ℕ) (s : Stamp) (c : Clock) (west : Bool) (at : ℕ) where
       let m₂ : f < length w = omega (arith, r₂ .within) in
       r-run w at e NoForm r (sym h ∙ not-false t k) (r-more w e NoForm m (r-byte w e 58 NoForm m (sym (y .is) ∙ n) (r-run w (e + 1) f NoForm r₂ (sym h₂ ∙ not-false u k₂) (r-trailing w f m₂))))
 
-  pub offset-both : (e x f : ℕ) (t u : Bool) → EndsAt (front digit) w at e → t ≡ between 1 2 (e - at) → not t ≡ false → (e ≡ length w → ⊥) → ByteAt w e x → x ≡ 58 →
+  pub offset-both : (e x f : ℕ) (t u : Bool) → OffsetTo w s c west at → EndsAt (front digit) w at e → t ≡ between 1 2 (e - at) → not t ≡ false → (e ≡ length w → ⊥) → ByteAt w e x → x ≡ 58 →
       EndsAt (front digit) w (e + 1) f → u ≡ between 1 2 (f - (e + 1)) → not u ≡ false → f ≡ length w →
       Offset (Moment s c (record { west = west; hours = record { from = at; upto = e }; minutes = record { from = e + 1; upto = f } }))
-  offset-both e x f t u r h k q y n r₂ h₂ k₂ q₂ =
+  offset-both e x f t u o r h k q y n r₂ h₂ k₂ q₂ =
       let m : e < length w = omega (arith, r .within) in
-      r-run w at e _ r (sym h ∙ not-false t k) (r-more w e _ m (r-byte w e 58 _ m (sym (y .is) ∙ n) (r-run w (e + 1) f _ r₂ (sym h₂ ∙ not-false u k₂) (r-stop w f _ q₂ refl))))
+      r-run w at e _ r (sym h ∙ not-false t k) (r-more w e _ m (r-byte w e 58 _ m (sym (y .is) ∙ n) (r-run w (e + 1) f _ r₂ (sym h₂ ∙ not-false u k₂) (r-stop w f _ q₂ refl (by-minute o r r₂)))))
 
 -- ---- what ends a time, and dates
 
@@ -73,8 +71,8 @@ module _ (w : List ℕ) (s : Stamp) (c : Clock) (at : ℕ) where
   pub utc-more : at ≤ length w → (at ≡ length w → ⊥) → Reads (stop (timeOf w s c utc)) w at NoForm
   utc-more h n = r-trailing w at (omega arith)
 
-  pub utc-ends : at ≡ length w → Reads (stop (timeOf w s c utc)) w at (Moment s c (record { west = false; hours = record { from = 0; upto = 0 }; minutes = record { from = 0; upto = 0 } }))
-  utc-ends h = r-stop w at _ h refl
+  pub utc-ends : Unzoned w s c → at ≡ length w → Reads (stop (timeOf w s c utc)) w at (Moment s c (record { west = false; hours = record { from = 0; upto = 0 }; minutes = record { from = 0; upto = 0 } }))
+  utc-ends u h = r-stop w at _ h refl (no-offset u)
 
   abbrev Zoned : Form → Type 0
   Zoned r = Reads (g-zone (λ z. timeOf w s c z)) w at r
@@ -143,8 +141,8 @@ module _ (w : List ℕ) (s : Stamp) (at e : ℕ) (t : Bool) (d : Digits w at e) 
   time-some x r f y q g = r-run w at e r d (sym k ∙ not-false t f) (r-byte w e 58 r (there w e x 58 (omega arith) y q) (sym (y .is) ∙ q) g)
 
 module _ (w : List ℕ) (da : Date) (at : ℕ) where
-  pub day-alone : at ≡ length w → Reads (g-dated (dateOf w da)) w at (Day da)
-  day-alone h = r-nil w at _ h (r-stop w at _ h refl)
+  pub day-alone : DateTo w da at → at ≡ length w → Reads (g-dated (dateOf w da)) w at (Day da)
+  day-alone d h = r-nil w at _ h (r-stop w at _ h refl (day d))
 
   module _ (in-range : at ≤ length w) (not-end : at ≡ length w → ⊥) where
     pub day-upper : (r : Form) → getD w at 0 ≡ 84 → Reads (g-time (stamped w (Dated da))) w (at + 1) r → Reads (g-dated (dateOf w da)) w at r

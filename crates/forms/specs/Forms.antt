@@ -10,6 +10,7 @@ use Rattle.rules.specs.Values.{Date as DateR, in-year, in-month, Zone as ZoneR,
 use Rattle.rules.proofs.Words.Patterns.{G, stop, byte, check, run, fork, matches}
 use Rattle.rules.proofs.Words.Shapes.{is, some-of, any, sec, g-scale, g-based, g-minutes, g-days, g-zone, g-dated}
 use Rattle.classes.specs.Places.{part}
+use Rattle.forms.specs.Laid.{Laid}
 use Rattle.forms.specs.declared.Span.{Span}
 use Rattle.forms.specs.declared.Date.{Date}
 use Rattle.forms.specs.declared.Date.the-variants.{InYear, InMonth}
@@ -51,9 +52,10 @@ written w (Decimal neg ds fs below x) = some (a-decimal neg (on w ds) (on w fs) 
 written w (Day d) = some (a-date (dateOf w d))
 written w (Moment s c z) = some (timeOf w s c (zoneOf w z))
 
--- the answer to what stands from a place on, by the part of the pattern that is left
+-- the answer to what stands from a place on: what the part of the pattern that is left finds there, and where its spans stand
 pub record Reads (g : G) (w : List ℕ) (at : ℕ) (r : Form) : Type 0 where
   pub reads : matches g (drop at w) ≡ written w r
+  pub laid : Laid w r
 
 -- how many bytes the sign is that a byte may be, at the front of a number
 pub data Signed : ℕ → ℕ → Type 0 where

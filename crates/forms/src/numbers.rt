@@ -12,18 +12,20 @@ ghost use mathlib.Core.Path.{_≡_};
 ghost use mathlib.Core.Bool.{not, _||_};
 ghost use lib.Dec.{eqb};
 ghost use Prim.Native.Nat.{_+_, _≤_, _<_};
-ghost use lib.ListN.{length};
+ghost use lib.ListN.{length, getD};
 ghost use Rattle.rules.specs.Bytes.{digit, alnum};
 ghost use Rattle.rules.specs.Modes.{base};
 ghost use Rattle.rules.specs.Values.{number, a-decimal};
 ghost use Rattle.rules.proofs.Words.Patterns.{run};
 ghost use Rattle.rules.proofs.Words.Shapes.{any, some-of, g-after, g-integer, g-scale, g-based};
 ghost use Rattle.classes.specs.Places.{part};
+ghost use Rattle.forms.specs.Laid.{Behind, SignTo, Digits, RadixTo, BasedTo, MantissaTo, PowerTo};
 ghost use Rattle.forms.specs.Forms.{Reads, on, inPower, inRadix, g-pointed, g-plain};
 
 // The digits of a based integer and the # that ends it.
 fn radix_digits(w: &[u8], radix: Span, neg: bool, at: usize) -> Form
     requires { ⌜ at ≤ length (now w) ⌝ }
+    requires { ⌜ BasedTo (now w) radix neg at ⌝ }
     ensures { λ r. ⌜ Reads (run alnum some-of (inRadix (now (w .entry)) radix neg)) (now (w .entry)) at r ⌝ }
 {
     let e = alnum_end(w, at);
@@ -42,6 +44,7 @@ fn radix_digits(w: &[u8], radix: Span, neg: bool, at: usize) -> Form
 // A based integer behind its radix and #.
 fn based(w: &[u8], radix: Span, at: usize) -> Form
     requires { ⌜ at ≤ length (now w) ⌝ }
+    requires { ⌜ Behind (RadixTo (now w) radix) at ⌝ }
     ensures { λ r. ⌜ Reads (g-based (number (on (now (w .entry)) radix))) (now (w .entry)) at r ⌝ }
 {
     let b = byte_at(w, at);
@@ -57,6 +60,7 @@ fn based(w: &[u8], radix: Span, at: usize) -> Form
 // The digits of an exponent, which end the word.
 fn power_digits(w: &[u8], neg: bool, whole: Span, decimals: Span, below: bool, at: usize) -> Form
     requires { ⌜ at ≤ length (now w) ⌝ }
+    requires { ⌜ PowerTo (now w) neg whole decimals below at ⌝ }
     ensures { λ r. ⌜ Reads (run digit some-of (inPower neg (on (now (w .entry)) whole) (on (now (w .entry)) decimals) below)) (now (w .entry)) at r ⌝ }
 {
     let e = digits_end(w, at);
@@ -72,6 +76,7 @@ fn power_digits(w: &[u8], neg: bool, whole: Span, decimals: Span, below: bool, a
 // A real behind the E of its exponent.
 fn power(w: &[u8], neg: bool, whole: Span, decimals: Span, at: usize) -> Form
     requires { ⌜ at ≤ length (now w) ⌝ }
+    requires { ⌜ Behind (MantissaTo (now w) neg whole decimals) at ⌝ }
     ensures { λ r. ⌜ Reads (g-integer (a-decimal neg (on (now (w .entry)) whole) (on (now (w .entry)) decimals))) (now (w .entry)) at r ⌝ }
 {
     let b = byte_at(w, at);
@@ -94,6 +99,7 @@ fn is_mark(b: u8) -> bool
 // A real from the end of its decimals on.
 fn scale(w: &[u8], neg: bool, whole: Span, decimals: Span, at: usize) -> Form
     requires { ⌜ at ≤ length (now w) ⌝ }
+    requires { ⌜ MantissaTo (now w) neg whole decimals at ⌝ }
     ensures { λ r. ⌜ Reads (g-scale (a-decimal neg (on (now (w .entry)) whole) (on (now (w .entry)) decimals))) (now (w .entry)) at r ⌝ }
 {
     if at == w.len() {
@@ -108,6 +114,7 @@ fn scale(w: &[u8], neg: bool, whole: Span, decimals: Span, at: usize) -> Form
 // A real behind its period, which stands at the place; its first digits begin at `from`. Two periods need no test: the second is no exponent.
 fn pointed(w: &[u8], neg: bool, from: usize, at: usize) -> Form
     requires { ⌜ (from ≤ at) × (at < length (now w)) ⌝ }
+    requires { ⌜ SignTo (now w) 0 neg from × Digits (now w) from at × (getD (now w) at 0 ≡ 46) ⌝ }
     ensures { λ r. ⌜ Reads (g-pointed neg (part (now (w .entry)) from at)) (now (w .entry)) (at + 1) r ⌝ }
 {
     let q = at + 1;
@@ -124,6 +131,7 @@ fn pointed(w: &[u8], neg: bool, from: usize, at: usize) -> Form
 // What only digits with no sign begin: a based integer, a time, a date. The place is the end of those digits.
 fn plain(w: &[u8], at: usize) -> Form
     requires { ⌜ at < length (now w) ⌝ }
+    requires { ⌜ Digits (now w) 0 at ⌝ }
     ensures { λ r. ⌜ Reads (g-plain (part (now (w .entry)) 0 at)) (now (w .entry)) at r ⌝ }
 {
     let b = w[at];
@@ -145,12 +153,13 @@ fn plain(w: &[u8], at: usize) -> Form
     if at != 4 {
         return Form::NoForm;
     }
-    days(w, 5)
+    days(w)
 }
 
 // A word that begins with no letter, from where its digits would begin: at 1 behind a sign, at 0 with none.
 pub fn number_at(w: &[u8], neg: bool, from: usize) -> Form
     requires { ⌜ from ≤ length (now w) ⌝ }
+    requires { ⌜ SignTo (now w) 0 neg from ⌝ }
     ensures { λ r. ⌜ Reads (run digit any (g-after base (not (eqb from 0)) neg)) (now (w .entry)) from r ⌝ }
 {
     let at = digits_end(w, from);

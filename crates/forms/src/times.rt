@@ -16,11 +16,13 @@ ghost use Rattle.rules.specs.Values.{utc};
 ghost use Rattle.rules.proofs.Words.Patterns.{run, stop};
 ghost use Rattle.rules.proofs.Words.Shapes.{g-days, g-dated, g-time, g-minutes, g-seconds, g-zone, g-offset};
 ghost use Rattle.classes.specs.Places.{part};
+ghost use Rattle.forms.specs.Laid.{Behind, MonthTo, DateTo, StampTo, HourTo, MinuteTo, SecondTo, ClockTo, Unzoned, OffsetTo};
 ghost use Rattle.forms.specs.Forms.{Reads, timeOf, stamped, dateOf, on, atSecond, g-decimals, inMonth};
 
 // The zone of a time, behind its sign.
 fn zone_offset(w: &[u8], stamp: Stamp, clock: Clock, west: bool, at: usize) -> Form
     requires { ⌜ at ≤ length (now w) ⌝ }
+    requires { ⌜ OffsetTo (now w) stamp clock west at ⌝ }
     ensures { λ r. ⌜ Reads (g-offset west (λ z. timeOf (now (w .entry)) stamp clock z)) (now (w .entry)) at r ⌝ }
 {
     let e = digits_end(w, at);
@@ -58,6 +60,7 @@ fn zone_offset(w: &[u8], stamp: Stamp, clock: Clock, west: bool, at: usize) -> F
 // The end of a time with no offset.
 fn utc_end(w: &[u8], stamp: Stamp, clock: Clock, at: usize) -> Form
     requires { ⌜ at ≤ length (now w) ⌝ }
+    requires { ⌜ Unzoned (now w) stamp clock ⌝ }
     ensures { λ r. ⌜ Reads (stop (timeOf (now (w .entry)) stamp clock utc)) (now (w .entry)) at r ⌝ }
 {
     if at != w.len() {
@@ -78,6 +81,7 @@ fn utc_end(w: &[u8], stamp: Stamp, clock: Clock, at: usize) -> Form
 // What ends a time: nothing, Z, or an offset.
 fn zone_at(w: &[u8], stamp: Stamp, clock: Clock, at: usize) -> Form
     requires { ⌜ at ≤ length (now w) ⌝ }
+    requires { ⌜ ClockTo (now w) stamp clock at ⌝ }
     ensures { λ r. ⌜ Reads (g-zone (λ z. timeOf (now (w .entry)) stamp clock z)) (now (w .entry)) at r ⌝ }
 {
     if at == w.len() {
@@ -102,6 +106,7 @@ fn zone_at(w: &[u8], stamp: Stamp, clock: Clock, at: usize) -> Form
 // A time from the end of its whole seconds on.
 fn decimals(w: &[u8], stamp: Stamp, hour: Span, minute: Span, second: Span, at: usize) -> Form
     requires { ⌜ at ≤ length (now w) ⌝ }
+    requires { ⌜ SecondTo (now w) stamp hour minute second at ⌝ }
     ensures { λ r. ⌜ Reads (g-decimals (on (now (w .entry)) second) (atSecond (now (w .entry)) stamp hour minute)) (now (w .entry)) at r ⌝ }
 {
     if byte_at(w, at) != 46 {
@@ -127,6 +132,7 @@ fn decimals(w: &[u8], stamp: Stamp, hour: Span, minute: Span, second: Span, at: 
 // A time from the end of its minutes on.
 fn seconds(w: &[u8], stamp: Stamp, hour: Span, minute: Span, at: usize) -> Form
     requires { ⌜ at ≤ length (now w) ⌝ }
+    requires { ⌜ MinuteTo (now w) stamp hour minute at ⌝ }
     ensures { λ r. ⌜ Reads (g-seconds (atSecond (now (w .entry)) stamp hour minute)) (now (w .entry)) at r ⌝ }
 {
     if byte_at(w, at) != 58 {
@@ -150,6 +156,7 @@ fn seconds(w: &[u8], stamp: Stamp, hour: Span, minute: Span, at: usize) -> Form
 // A time from its minutes on.
 pub fn minutes(w: &[u8], stamp: Stamp, hour: Span, at: usize) -> Form
     requires { ⌜ at ≤ length (now w) ⌝ }
+    requires { ⌜ Behind (HourTo (now w) stamp hour) at ⌝ }
     ensures { λ r. ⌜ Reads (g-minutes (on (now (w .entry)) hour) (stamped (now (w .entry)) stamp)) (now (w .entry)) at r ⌝ }
 {
     let e = digits_end(w, at);
@@ -162,6 +169,7 @@ pub fn minutes(w: &[u8], stamp: Stamp, hour: Span, at: usize) -> Form
 // A time from its hour on.
 fn time_at(w: &[u8], stamp: Stamp, at: usize) -> Form
     requires { ⌜ at ≤ length (now w) ⌝ }
+    requires { ⌜ StampTo (now w) stamp at ⌝ }
     ensures { λ r. ⌜ Reads (g-time (stamped (now (w .entry)) stamp)) (now (w .entry)) at r ⌝ }
 {
     let e = digits_end(w, at);
@@ -177,6 +185,7 @@ fn time_at(w: &[u8], stamp: Stamp, at: usize) -> Form
 // What follows a date: nothing, or T and a time.
 fn dated(w: &[u8], date: Date, at: usize) -> Form
     requires { ⌜ at ≤ length (now w) ⌝ }
+    requires { ⌜ DateTo (now w) date at ⌝ }
     ensures { λ r. ⌜ Reads (g-dated (dateOf (now (w .entry)) date)) (now (w .entry)) at r ⌝ }
 {
     if at == w.len() {
@@ -195,6 +204,7 @@ fn dated(w: &[u8], date: Date, at: usize) -> Form
 // A date from the day of its month on.
 fn month_day(w: &[u8], month: Span, at: usize) -> Form
     requires { ⌜ at ≤ length (now w) ⌝ }
+    requires { ⌜ Behind (MonthTo (now w) month) at ⌝ }
     ensures { λ r. ⌜ Reads (run digit (between 1 2) (inMonth (now (w .entry)) month)) (now (w .entry)) at r ⌝ }
 {
     let e = digits_end(w, at);
@@ -204,20 +214,20 @@ fn month_day(w: &[u8], month: Span, at: usize) -> Form
     dated(w, Date::InMonth(month, Span { from: at, upto: e }), e)
 }
 
-// A date from the hyphen behind its year on.
-pub fn days(w: &[u8], at: usize) -> Form
-    requires { ⌜ at ≤ length (now w) ⌝ }
-    ensures { λ r. ⌜ Reads (g-days (part (now (w .entry)) 0 4)) (now (w .entry)) at r ⌝ }
+// A date from the hyphen behind its year on, at the sixth byte.
+pub fn days(w: &[u8]) -> Form
+    requires { ⌜ 5 ≤ length (now w) ⌝ }
+    ensures { λ r. ⌜ Reads (g-days (part (now (w .entry)) 0 4)) (now (w .entry)) 5 r ⌝ }
 {
-    let e = digits_end(w, at);
+    let e = digits_end(w, 5);
     if byte_at(w, e) == 45 {
-        if !counts(1, 2, at, e) {
+        if !counts(1, 2, 5, e) {
             return Form::NoForm;
         }
-        return month_day(w, Span { from: at, upto: e }, e + 1);
+        return month_day(w, Span { from: 5, upto: e }, e + 1);
     }
-    if !counts(1, 3, at, e) {
+    if !counts(1, 3, 5, e) {
         return Form::NoForm;
     }
-    dated(w, Date::InYear(Span { from: at, upto: e }), e)
+    dated(w, Date::InYear(Span { from: 5, upto: e }), e)
 }

@@ -1,4 +1,5 @@
 -- What the proofs of this crate share.
+pub mod Once
 pub mod Reserved
 pub mod Digits
 pub mod Decimals
