@@ -19,6 +19,7 @@ use Rattle.table.specs.Judging.{Judges, proper, improper}
 use Rattle.table.specs.declared.Checked.{Checked}
 use Rattle.table.specs.declared.Checked.the-variants as checks
 use Rattle.parts.specs.Puts.{Puts}
+use Rattle.parts.proofs.Laws.{long, fits}
 use Rattle.asked.specs.declared.Shown.{Shown}
 use Rattle.asked.specs.declared.Shown.the-variants.{Span, Nothing}
 use Rattle.asked.specs.declared.Stretch.{Stretch}
@@ -36,7 +37,7 @@ text-is h e = rw h e
 -- measured into no room, then written
 module _ (room p a : List ℕ) (n : ℕ) (h : Puts p [] a n) where
   untouched : a ++ room ≡ room
-  untouched = go a (h .long)
+  untouched = go a (long h)
     where
       go : (a : List ℕ) → length a ≡ 0 → a ++ room ≡ room
       go [] e = refl
@@ -50,7 +51,7 @@ module _ (room p a : List ℕ) (n : ℕ) (h : Puts p [] a n) where
   pub room-fits : (r : List ℕ) (m : ℕ) → n ≤ length (a ++ room) → Puts p (a ++ room) r m → outcome (says 0 0 m) r ≡ fitted room p
   room-fits r m l q =
       let k : length p ≤ length room = omega (arith, h .count, ap length untouched) in
-      let e : r ≡ p ++ drop (length p) room = q .bytes (omega (arith, ap length untouched)) ∙ ap (λ (x : List ℕ). p ++ drop (length p) x) untouched in
+      let e : r ≡ p ++ drop (length p) room = fits q (omega (arith, ap length untouched)) ∙ ap (λ (x : List ℕ). p ++ drop (length p) x) untouched in
       rw (le-leb (length p) (length room) k, q .count, e)
 
 span-same : {a b c d : ℕ} → Span a b ≡ Span c d → (a ≡ c) × (b ≡ d)

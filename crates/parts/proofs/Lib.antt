@@ -2,3 +2,4 @@
 pub mod Laws
 pub mod Copies
 pub mod Reassembly
+pub mod Once

@@ -16,7 +16,7 @@ use Rattle.classes.proofs.Runs.{unroll}
 use Rattle.parts.specs.Puts.{Puts}
 use Rattle.parts.specs.Joins.{maybe, Known, Turned}
 use Rattle.parts.specs.declared.Turn.{Turn}
-use Rattle.parts.proofs.Laws.{nothing, onward, same-part}
+use Rattle.parts.proofs.Laws.{nothing, onward, long, same-part}
 
 -- ---- bytes that are passed over, and bytes that are kept
 
@@ -195,12 +195,13 @@ pub record Joining (w room out : List ℕ) (n i : ℕ) (dealt known : Bool) : Ty
   pub less : n ≤ i
   pub done : List ℕ
   pub puts : Puts done room out n
+  pub same : length out ≡ length room
   pub rest : reassemble w ≡ done ++ join dealt (keep (drop i w))
   pub knows : Known w i known
 
 pub join-start : (w room : List ℕ) → Joining w room room 0 0 false false
 unfolding reassemble
-join-start w room = record { within = omega arith; less = omega arith; done = []; puts = nothing room; rest = refl; knows = known-not w 0 }
+join-start w room = record { within = omega arith; less = omega arith; done = []; puts = nothing room; same = refl; rest = refl; knows = known-not w 0 }
 
 pub join-turn : (w room out p : List ℕ) (n m k i : ℕ) (dealt known : Bool) (t : Turn) → Joining w room out n i dealt known → i < length w → Turned w i dealt t → k ≡ min n (length out) →
     Puts (maybe (t .put) (t .byte)) (midOf k (length out - k) out) p m × (m ≤ 1) → Joining w room (putMid k (length out - k) out p) (n + m) (i + 1) (t .dealt) (t .known)
@@ -209,6 +210,7 @@ join-turn w room out p n m k i dealt known t v h q e f = record {
   less = omega (arith, v .less, f .1);
   done = v .done ++ maybe (t .put) (t .byte);
   puts = onward (v .puts) e (f .0);
+  same = long (onward (v .puts) e (f .0));
   rest = v .rest ∙ ap (λ (l : List ℕ). v .done ++ l) (q .joins) ∙ sym (append-assoc (v .done) (maybe (t .put) (t .byte)) (join (t .dealt) (keep (drop (i + 1) w))));
   knows = q .knows;
 }

@@ -26,27 +26,23 @@ pub fn put_byte(out: &mut [u8], b: u8) -> usize
 pub fn put_bytes(out: &mut [u8], w: &[u8]) -> usize
     ensures { λ r. ⌜ Puts (now (w .entry)) (now (out .entry)) (now (out .exit)) r ⌝ }
 {
-    if out.len() < w.len() {
-        return w.len();
-    }
+    let e = least(w.len(), out.len());
     let mut i = 0;
-    while i < w.len() {
+    while i < e {
         out[i] = w[i];
         i += 1;
     }
-    i
+    w.len()
 }
 
 pub fn put_folded(out: &mut [u8], w: &[u8]) -> usize
     ensures { λ r. ⌜ Puts (map fold (now (w .entry))) (now (out .entry)) (now (out .exit)) r × (r ≡ length (now (w .entry))) ⌝ }
 {
-    if out.len() < w.len() {
-        return w.len();
-    }
+    let e = least(w.len(), out.len());
     let mut i = 0;
-    while i < w.len() {
+    while i < e {
         out[i] = folded(w[i]);
         i += 1;
     }
-    i
+    w.len()
 }

@@ -13,7 +13,7 @@ use Rattle.rules.specs.Written.{unitsEnd, lead, lineBreak, indent, newLine, opS
 use Rattle.rows.specs.Rows.{opOf}
 use Rattle.rows.specs.declared.Op.{Op}
 use Rattle.parts.specs.Puts.{Puts}
-use Rattle.parts.proofs.Laws.{nothing, same-part, onward}
+use Rattle.parts.proofs.Laws.{nothing, same-part, long, onward}
 use Rattle.printing.specs.Lines.{priorOf}
 use Rattle.printing.specs.declared.Prior.{Prior}
 
@@ -47,14 +47,15 @@ pub record Indenting (d : ℕ) (room out : List ℕ) (n i : ℕ) : Type 0 where
   pub within : i ≤ d
   pub size : n ≡ 2 * i
   pub puts : Puts (indent i) room out n
+  pub same : length out ≡ length room
 
 pub indent-start : (d : ℕ) (room : List ℕ) → Indenting d room room 0 0
 unfolding indent
-indent-start d room = record { within = omega arith; size = refl; puts = nothing room }
+indent-start d room = record { within = omega arith; size = refl; puts = nothing room; same = refl }
 
 pub indent-turn : (d : ℕ) (room out p : List ℕ) (n m k i : ℕ) → Indenting d room out n i → i < d → k ≡ min n (length out) → Puts (32 ∷ 32 ∷ []) (midOf k (length out - k) out) p m →
     Indenting d room (putMid k (length out - k) out p) (n + m) (i + 1)
-indent-turn d room out p n m k i v h e f = record { within = omega arith; size = omega (arith, v .size, f .count); puts = same-part (sym (deeper i)) (onward (v .puts) e f) }
+indent-turn d room out p n m k i v h e f = record { within = omega arith; size = omega (arith, v .size, f .count); puts = same-part (sym (deeper i)) (onward (v .puts) e f); same = long (onward (v .puts) e f) }
 
 pub indent-end : (d : ℕ) (room out : List ℕ) (n i : ℕ) → Indenting d room out n i → d ≤ i → d ≤ 80 → Puts (indent d) room out n × (n ≤ 160)
 indent-end d room out n i v h b =

@@ -14,7 +14,7 @@ use Rattle.rows.specs.Rows.{kindOf}
 use Rattle.rows.specs.declared.Kind.{Kind}
 use Rattle.parts.specs.Puts.{Puts}
 use Rattle.parts.proofs.Laws.{same-part}
-use Rattle.printing.specs.Lines.{priorOf, topOf, Writes, Closes}
+use Rattle.printing.specs.Lines.{priorOf, Innermost, Writes, Closes}
 use Rattle.printing.specs.declared.Prior.{Prior}
 use Rattle.printing.proofs.Between.{short}
 
@@ -50,7 +50,7 @@ module _ {x y : List ℕ} {n : ℕ} where
         n ≤ 200000 → Closes (priorOf q) d (map fold w) (kindOf k) x y n
     close-row k w {e} h p m = record { puts = λ o s. go o (s .deep) (s .named); most = m }
       where
-        go : (o : Opens) → depth o ≡ d → topOf o ≡ map fold w → Puts (writes (priorOf q) o (closed (kindOf k))) x y n
+        go : (o : Opens) → depth o ≡ d → Innermost (map fold w) o → Puts (writes (priorOf q) o (closed (kindOf k))) x y n
         go outside a b =
             let z : e ≡ 0 = omega arith in
             rw (z, eq-eqb d 0 (sym a)) at p

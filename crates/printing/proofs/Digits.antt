@@ -1,26 +1,46 @@
 -- Digits of a number, from the last one on: k of them, how many there are, and those of a fraction.
-use Prim.Native.Nat.{ℕ, zero, suc, _+_, _-_, _*_, _/_, _%_, _^_, _≤_, _<_}
+use Prim.Native.Nat.{ℕ, zero, suc, _+_, _-_, _*_, _/_, _%_, _^_, _≤_, _<_, min}
 use mathlib.Core.Bool.{false, not}
 use mathlib.Core.Path.{_≡_, refl, ap, sym, _∙_}
 use mathlib.Core.List.{List, [], _∷_, _++_}
-use native.Mathlib.Nat.{pow-suc, pow-succ', pow-le-pow-right, div-lt-iff-lt-mul, div-div-eq-div-mul, zero-add, suc-add}
+use native.Mathlib.Nat.{pow-suc, pow-succ', pow-le-pow-right, div-lt-iff-lt-mul, div-div-eq-div-mul, zero-add, suc-add, le-refl}
+use native.Mathlib.Decide.{decLe}
+use native.Mathlib.Numerals.{add-one}
 use lib.Arith.{lt-of-le-ne}
 use native.Mathlib.Omega.{arith}
 use borrow.Author.Tests.{eq-eqb, ne-eqb, le-leb}
 use lib.Dec.{eqb}
-use lib.ListN.{length, set, drop, length-set}
-use lib.Seq.{drop-cons, drop-set-lt, getD-set-same}
+use lib.ListN.{length, set, take, drop, length-set, drop-of-length-le}
+use lib.Seq.{drop-cons, drop-set-lt, getD-set-same, take-all, take-append-le}
 use Rattle.rules.specs.Values.{each, significant}
 use Rattle.rules.specs.Written.{wide, unpadded, digits}
 use Rattle.rules.proofs.Tables.Numbers.{pow-positive}
 use Rattle.rules.proofs.Tables.Tests.{and-false}
 use Rattle.rules.proofs.Written.PrintedNumbers.{wide-length}
 use Rattle.parts.specs.Puts.{Puts}
-use Rattle.parts.proofs.Laws.{no-room}
 use Rattle.printing.specs.Counts.{Counted, Trimmed}
+
+-- ---- a number without its last digits
+
+pub record Fewer (n k v i : ℕ) : Type 0 where
+  pub within : i ≤ k
+  pub value : v ≡ n / 10 ^ i
+
+pub fewer-start : (n k : ℕ) → Fewer n k n 0
+fewer-start n k = record { within = omega arith; value = omega arith }
+
+div-ten : (n k : ℕ) → n / 10 ^ k / 10 ≡ n / 10 ^ suc k
+div-ten n k = div-div-eq-div-mul n (10 ^ k) 10 ∙ ap (λ (i : ℕ). n / i) (sym (pow-suc 10 k))
+
+pub fewer-turn : (n k v i : ℕ) → Fewer n k v i → i < k → Fewer n k (v / 10) (i + 1)
+fewer-turn n k v i f h = record { within = omega arith; value = rw (add-one, f .value) (div-ten n i) }
+
+pub fewer-end : (n k v i : ℕ) → Fewer n k v i → k ≤ i → v ≡ n / 10 ^ k
+fewer-end n k v i f h = let e : i ≡ k = omega (arith, f .within) in rw e at (f .value)
 
 -- ---- k digits, the last one first
 
+-- so many digits of a number fit the room, and those from the i-th on stand there
 pub record Wide (k n : ℕ) (room out : List ℕ) (v i : ℕ) : Type 0 where
   pub within : i ≤ k
   pub fits : k ≤ length room
@@ -28,14 +48,11 @@ pub record Wide (k n : ℕ) (room out : List ℕ) (v i : ℕ) : Type 0 where
   pub rest : drop i out ≡ wide (k - i) n ++ drop k room
   pub value : v ≡ n / 10 ^ (k - i)
 
-pub wide-start : (k n : ℕ) (room : List ℕ) → k ≤ length room → Wide k n room room n k
+pub wide-start : (k n : ℕ) (room : List ℕ) (e v : ℕ) → e ≡ min k (length room) → v ≡ n / 10 ^ (k - e) → Wide e (n / 10 ^ (k - e)) room room v e
 unfolding wide
-wide-start k n room h =
-    let e : k - k ≡ 0 = omega arith in
-    record { within = omega arith; fits = h; long = refl; rest = rw e; value = rw e (omega arith) }
-
-div-ten : (n k : ℕ) → n / 10 ^ k / 10 ≡ n / 10 ^ suc k
-div-ten n k = div-div-eq-div-mul n (10 ^ k) 10 ∙ ap (λ (i : ℕ). n / i) (sym (pow-suc 10 k))
+wide-start k n room e v h g =
+    let a : e - e ≡ 0 = omega arith in
+    record { within = omega arith; fits = omega arith; long = refl; rest = rw a; value = rw (a, g) (omega arith) }
 
 digit-first : (k n : ℕ) → wide (suc k) n ≡ (48 + n / 10 ^ k % 10) ∷ wide k n
 unfolding wide
@@ -56,15 +73,45 @@ wide-turn k n room out v i w h =
       value = rw (e, w .value) (div-ten n (k - i));
     }
 
-pub wide-end : (k n : ℕ) (room out : List ℕ) (v i : ℕ) → Wide k n room out v i → i ≤ 0 → Puts (wide k n) room out k × (k ≡ k)
-wide-end k n room out v i w h =
-    let e : i ≡ 0 = omega arith in
-    let f : k - 0 ≡ k = omega arith in
-    let b : drop 0 out ≡ wide k n ++ drop k room = rw (e, f) at (w .rest) in
-    (record { count = sym (wide-length k n); long = w .long; bytes = λ g. rw (wide-length k n) b }, refl)
+last-digit : (k n : ℕ) → wide (suc k) n ≡ wide k (n / 10) ++ ((48 + n % 10) ∷ [])
+unfolding wide
+last-digit zero n = let e : n / 10 ^ 0 ≡ n = omega arith in rw e
+last-digit (suc k) n =
+    let e : n / 10 ^ suc k ≡ n / 10 / 10 ^ k = ap (λ (i : ℕ). n / i) (pow-succ' 10 k) ∙ sym (div-div-eq-div-mul n 10 (10 ^ k)) in
+    rw e (ap (λ (l : List ℕ). (48 + n / 10 / 10 ^ k % 10) ∷ l) (last-digit k n))
 
-pub wide-none : (k n : ℕ) (room : List ℕ) → length room < k → Puts (wide k n) room room k × (k ≡ k)
-wide-none k n room h = (no-room (sym (wide-length k n)) h, refl)
+-- the first digits are those of the number without its last
+first-digits : (e j n : ℕ) → take e (wide (e + j) n) ≡ wide e (n / 10 ^ j)
+first-digits e zero n =
+    let a : e + 0 ≡ e = omega arith in
+    let b : n / 10 ^ 0 ≡ n = omega arith in
+    rw (a, b) (take-all e (wide e n) (rw (wide-length e n) (le-refl e)))
+first-digits e (suc j) n =
+    let a : e + suc j ≡ suc (e + j) = omega arith in
+    let b : n / 10 ^ suc j ≡ n / 10 / 10 ^ j = ap (λ (i : ℕ). n / i) (pow-succ' 10 j) ∙ sym (div-div-eq-div-mul n 10 (10 ^ j)) in
+    let c : e ≤ length (wide (e + j) (n / 10)) = rw (wide-length (e + j) (n / 10)) (omega arith) in
+    rw (a, b, last-digit, take-append-le e (wide (e + j) (n / 10)) ((48 + n % 10) ∷ []) c) (first-digits e j (n / 10))
+
+pub wide-end : (k n : ℕ) (room out : List ℕ) (e v i : ℕ) → e ≡ min k (length room) → Wide e (n / 10 ^ (k - e)) room out v i → i ≤ 0 → Puts (wide k n) room out k × (k ≡ k)
+wide-end k n room out e v i h w z = (record { count = sym (wide-length k n); bytes = stands ∙ rw (wide-length k n) (go (decLe k (length room))) }, refl)
+  where
+    stands : out ≡ wide e (n / 10 ^ (k - e)) ++ drop e room
+    stands =
+        let a : i ≡ 0 = omega arith in
+        let b : e - 0 ≡ e = omega arith in
+        rw (a, b) at (w .rest)
+
+    go : Dec (k ≤ length room) → wide e (n / 10 ^ (k - e)) ++ drop e room ≡ take (length room) (wide k n) ++ drop k room
+    go (yes f) =
+        let a : e ≡ k = omega arith in
+        let b : k - k ≡ 0 = omega arith in
+        let c : n / 10 ^ 0 ≡ n = omega arith in
+        rw (a, b, c, take-all (length room) (wide k n) (rw (wide-length k n) f))
+    go (no f) =
+        let a : e ≡ length room = omega arith in
+        let b : length room + (k - length room) ≡ k = omega arith in
+        let c : take (length room) (wide k n) ≡ wide (length room) (n / 10 ^ (k - length room)) = rw (b) at (first-digits (length room) (k - length room) n) in
+        rw (a, c, drop-of-length-le room {i = length room} (le-refl _), drop-of-length-le room {i = k} (omega arith))
 
 -- ---- how many digits a number has
 
@@ -123,13 +170,6 @@ count-end n v (suc k) c h =
     record { are = ap (λ (i : ℕ). unpadded (wide i n)) (sym s) ∙ unpad (20 - suc k) (suc k) n (omega arith) b ∙ top-not k n (λ g. rw (← e) (c .leads (omega arith))) q; most = c .most }
 
 -- ---- decimals without the zeros that end them
-
-last-digit : (k n : ℕ) → wide (suc k) n ≡ wide k (n / 10) ++ ((48 + n % 10) ∷ [])
-unfolding wide
-last-digit zero n = let e : n / 10 ^ 0 ≡ n = omega arith in rw e
-last-digit (suc k) n =
-    let e : n / 10 ^ suc k ≡ n / 10 / 10 ^ k = ap (λ (i : ℕ). n / i) (pow-succ' 10 k) ∙ sym (div-div-eq-div-mul n 10 (10 ^ k)) in
-    rw e (ap (λ (l : List ℕ). (48 + n / 10 / 10 ^ k % 10) ∷ l) (last-digit k n))
 
 noughts-more : (s : List ℕ) → each (λ b. eqb b 48) (s ++ (48 ∷ [])) ≡ each (λ b. eqb b 48) s
 noughts-more [] = refl

@@ -6,3 +6,4 @@ pub mod Between
 pub mod Symbols
 pub mod Blocks
 pub mod Sorts
+pub mod Once

@@ -21,15 +21,15 @@ priorOf priors.Factor = rule.factor
 priorOf priors.Bracket = rule.bracket
 priorOf priors.Row = rule.row
 
--- the name of the innermost block
-abbrev pub topOf : Opens → List ℕ
-topOf outside = []
-topOf (inside k n o) = n
+-- the innermost block, where one is open, has this name
+abbrev pub Innermost : List ℕ → Opens → Type 0
+Innermost top outside = Unit {0}
+Innermost top (inside k n o) = n ≡ top
 
 -- so many blocks are open, and the innermost has this name
 pub record Sees (o : Opens) (d : ℕ) (top : List ℕ) : Type 0 where
   pub deep : depth o ≡ d
-  pub named : topOf o ≡ top
+  pub named : Innermost top o
 
 -- what a row writes within so many blocks
 pub record Writes (q : rule.Prior) (d : ℕ) (s : Sense) (before after : List ℕ) (n : ℕ) : Type 0 where

@@ -6,22 +6,33 @@ use words::Real;
 ghost use mathlib.Core.Path.{_≡_};
 ghost use mathlib.Core.Bool.{cond};
 ghost use mathlib.Core.List.{[], _∷_};
-ghost use Prim.Native.Nat.{_≤_};
+ghost use Prim.Native.Nat.{_≤_, _/_, _^_};
 ghost use lib.Dec.{eqb};
 ghost use Rattle.rules.specs.Written.{wide, digits, decimal, realBytes};
 ghost use Rattle.words.specs.Says.{whole, realOf};
 ghost use Rattle.parts.specs.Puts.{Puts};
 ghost use Rattle.printing.specs.Counts.{Counted};
 
-// Exactly k digits, the last one first.
+// A number without its last k digits.
+fn without_last(n: u64, k: usize) -> u64
+    ensures { λ r. ⌜ r ≡ n / 10 ^ k ⌝ }
+{
+    let mut v = n;
+    let mut i = 0;
+    while i < k {
+        v = v / 10;
+        i += 1;
+    }
+    v
+}
+
+// Exactly k digits, or those of them that the room holds, the last one first.
 pub fn put_wide(out: &mut [u8], k: usize, n: u64) -> usize
     ensures { λ r. ⌜ Puts (wide k n) (now (out .entry)) (now (out .exit)) r × (r ≡ k) ⌝ }
 {
-    if out.len() < k {
-        return k;
-    }
-    let mut v = n;
-    let mut i = k;
+    let e = least(k, out.len());
+    let mut v = without_last(n, k - e);
+    let mut i = e;
     while 0 < i {
         i -= 1;
         out[i] = 48 + (v % 10) as u8;

@@ -10,12 +10,12 @@ use Rattle.rules.specs.Data as rule
 use Rattle.rules.specs.Table.{encode, table}
 use Rattle.rules.specs.Proper.{stretch, Held, Holds, Each, one, Proper, proper-rows, Ruled, is-proper}
 use Rattle.rules.specs.Meaning.{Sense, meaning, sense}
-use Rattle.rules.specs.Written.{Prior, start, prior, after, around, writes, writesAll, canonical}
+use Rattle.rules.specs.Written.{Prior, start, prior, after, around, writes, writesAll}
 use Rattle.rules.proofs.Tables.Proper.{proper}
 use Rattle.rules.proofs.Tables.Decode.{got, decode, Codes, decode-encode}
 use Rattle.rules.proofs.Tables.Once.{codes}
 use Rattle.rules.proofs.Tables.Judge.{encode-size}
-use Rattle.rules.proofs.Written.Lines.{leaves, open-after, soFar, row-more, size-more}
+use Rattle.rules.proofs.Written.Lines.{leaves, open-after, soFar, row-more}
 use Rattle.rows.specs.Rows.{span, kindOf, rowsOf}
 use Rattle.rows.specs.declared.Row.{Row}
 use Rattle.rows.specs.declared.Row.the-variants as rows
@@ -28,11 +28,12 @@ use Rattle.table.specs.Judging as judging
 use Rattle.table.specs.declared.Got.{Got}
 use Rattle.table.specs.declared.Checked.the-variants as checked
 use Rattle.parts.specs.Puts.{Puts}
-use Rattle.parts.proofs.Laws.{onward, same-part, nothing as nothing-put}
-use Rattle.printing.specs.Lines.{priorOf, topOf, Sees, RowPut, Leaves}
+use Rattle.parts.proofs.Laws.{onward, long, same-part, nothing as nothing-put}
+use Rattle.printing.specs.Lines.{priorOf, Innermost, Sees, RowPut, Leaves}
 use Rattle.printing.specs.declared.Prior as printing
 use Rattle.printing.specs.declared.Prior.the-variants as priors
-use Rattle.writer.specs.Passing.{opensOf, nestedIn, Opens, Nested, all, beyond, Passed}
+use Rattle.writer.specs.Passing.{opensOf, nestedIn, Opens, Nested, passing, Passed}
+use Rattle.writer.proofs.Bounded.{to-the-end, to-the-bound}
 use Rattle.writer.proofs.Depth.{room-to-open}
 
 -- ---- rows of the code and of the rules
@@ -82,14 +83,6 @@ means-append : (label : List ℕ) (xs ys : List rule.Row) → meaning label (xs 
 means-append label [] ys = refl
 means-append label (x ∷ xs) ys = ap (λ (l : List Sense). sense label x ∷ l) (means-append label xs ys)
 
-grows : (xs ys : List Sense) → length (soFar xs) ≤ length (soFar (xs ++ ys))
-grows xs [] = let e : xs ++ [] ≡ xs = append-nil xs in rw e (omega arith)
-grows xs (y ∷ ys) =
-    let a = grows (xs ++ (y ∷ [])) ys in
-    let e : (xs ++ (y ∷ [])) ++ ys ≡ xs ++ (y ∷ ys) = append-assoc xs (y ∷ []) ys in
-    let b : length (soFar (xs ++ (y ∷ []))) ≤ length (soFar (xs ++ (y ∷ ys))) = subst (λ (l : List Sense). length (soFar (xs ++ (y ∷ []))) ≤ length (soFar l)) e a in
-    omega (arith, size-more xs y)
-
 -- no row's prior depends on the label
 same-prior : (label : List ℕ) (r : rule.Row) → prior (sense [] r) ≡ prior (sense label r)
 same-prior label (rule.attribute p) = refl
@@ -114,14 +107,14 @@ deep-as : (label : List ℕ) (bs : List Block) → rule.depth (opensOf label bs)
 deep-as label [] = refl
 deep-as label (block k a b ∷ bs) = ap suc (deep-as label bs)
 
-named-as : (label : List ℕ) (bs : List Block) → topOf (opensOf label bs) ≡ map fold (stretch label (span (startOf bs) (endOf bs)))
-named-as label [] = refl
+named-as : (label : List ℕ) (bs : List Block) → Innermost (map fold (stretch label (span (startOf bs) (endOf bs)))) (opensOf label bs)
+named-as label [] = tt
 named-as label (block k a b ∷ bs) = refl
 
 sees : (label : List ℕ) (b : Blocks) (x y : ℕ) → x ≡ startOf (blocksOf b) → y ≡ endOf (blocksOf b) → Sees (opensOf label (blocksOf b)) (b .depth) (map fold (stretch label (span x y)))
 sees label b x y e f = record {
   deep = deep-as label (blocksOf b) ∙ counted (b .starts) (b .ends) (b .kinds) (b .depth);
-  named = named-as label (blocksOf b) ∙ rw (e, f);
+  named = rw (e, f) (named-as label (blocksOf b));
 }
 
 around-as : (label : List ℕ) (bs : List Block) → opensOf label (rest bs) ≡ around (opensOf label bs)
@@ -169,6 +162,7 @@ pub record Walking (label lent before out : List ℕ) (q : printing.Prior) (b : 
   pub rest : drop at lent ≡ table left
   pub within : at ≤ length lent
   pub puts : Puts (soFar (meaning label done)) before out n
+  pub same : length out ≡ length before
   pub small : n ≤ 65535
   pub prior : priorOf q ≡ leaves start (meaning label done)
   pub blocks : opensOf label (blocksOf b) ≡ open-after rule.outside (meaning label done)
@@ -197,6 +191,7 @@ starts label lent out b s (judging.proper rs v) h = record {
   rest = told-bytes v;
   within = omega arith;
   puts = nothing-put out;
+  same = refl;
   small = omega arith;
   prior = refl;
   blocks = ap (opensOf label) (h .0);
@@ -274,14 +269,11 @@ module _ {label lent before out : List ℕ} {q : printing.Prior} {b : Blocks} {a
     -- too long already
     pub over : 65535 < n + m → Passed label lent before (putMid k (length out - k) out p) (n + m)
     over z =
-        let i : w .done ++ (H .row ∷ H .later) ≡ w .rows = sym (w .split ∙ ap (λ (l : List rule.Row). w .done ++ l) (H .is)) in
-        let j : meaning label (w .done ++ (H .row ∷ [])) ++ meaning label (H .later) ≡ meaning label (w .rows) =
-        sym (means-append label (w .done ++ (H .row ∷ [])) (H .later)) ∙ ap (meaning label) (append-assoc (w .done) (H .row ∷ []) (H .later) ∙ i) in
-        let u = grows (meaning label (w .done ++ (H .row ∷ []))) (meaning label (H .later)) in
-        let v : length (soFar (meaning label (w .done ++ (H .row ∷ [])))) ≤ length (soFar (meaning label (w .rows))) =
-        subst (λ (l : List Sense). length (soFar (meaning label (w .done ++ (H .row ∷ [])))) ≤ length (soFar l)) j u in
-        let c : length (canonical (meaning label (w .rows))) ≡ length (soFar (meaning label (w .rows))) + 2 = length-append (soFar (meaning label (w .rows))) (13 ∷ 10 ∷ []) in
-        record { rows = w .rows; proper = w .ruled; written = beyond z (omega (arith, after-row .count)) (after-row .long) }
+        let e : meaning label (w .done ++ (H .row ∷ [])) ≡ meaning label (w .done) ++ (S ∷ []) = means-append label (w .done) (H .row ∷ []) in
+        let i : meaning label (w .rows) ≡ meaning label (w .done) ++ (S ∷ meaning label (H .later)) =
+        ap (meaning label) (w .split ∙ ap (λ (l : List rule.Row). w .done ++ l) (H .is)) ∙ means-append label (w .done) (H .row ∷ H .later) in
+        let t = to-the-bound (meaning label (w .done)) S (meaning label (H .later)) (omega (arith, w .puts .count, w .small)) (omega (arith, after-row .count, ap (λ (l : List Sense). length (soFar l)) e)) in
+        record { rows = w .rows; proper = w .ruled; written = same-part (ap soFar e ∙ t ∙ ap (passing 0 start rule.outside) (sym i)) after-row }
 
     room-for : Opens b (g .row)
     room-for = record {
@@ -305,6 +297,7 @@ module _ {label lent before out : List ℕ} {q : printing.Prior} {b : Blocks} {a
       rest = H .rest;
       within = omega (arith, r .within);
       puts = after-row;
+      same = long after-row;
       small = z;
       prior = l .is ∙ ap (λ (i : List rule.Row). leaves (priorOf q) (meaning [] i)) (H .one) ∙ same-prior label (H .row)
           ∙ sym (ap (leaves start) (means-append label (w .done) (H .row ∷ [])) ∙ leaves-last start (meaning label (w .done)) S);
@@ -325,5 +318,6 @@ pub ends : {label lent before out : List ℕ} {q : printing.Prior} {b : Blocks} 
 ends {label} {lent} {before} {out} {n = n} w h {p} {k} {m} ek put =
     let e : w .left ≡ [] = no-bytes (w .left) (sym (w .rest) ∙ drop-of-length-le lent h) in
     let d : w .rows ≡ w .done = w .split ∙ ap (λ (i : List rule.Row). w .done ++ i) e ∙ append-nil (w .done) in
-    let a : Puts (soFar (meaning label (w .done)) ++ (13 ∷ 10 ∷ [])) before (putMid k (length out - k) out p) (n + m) = onward (w .puts) ek put in
-    record { rows = w .rows; proper = w .ruled; written = all (subst (λ (i : List rule.Row). Puts (canonical (meaning label i)) before (putMid k (length out - k) out p) (n + m)) (sym d) a) }
+    let f : soFar (meaning label (w .done)) ++ (13 ∷ 10 ∷ []) ≡ passing 0 start rule.outside (meaning label (w .rows)) =
+    to-the-end (meaning label (w .done)) (omega (arith, w .puts .count, w .small)) ∙ ap (λ (i : List rule.Row). passing 0 start rule.outside (meaning label i)) (sym d) in
+    record { rows = w .rows; proper = w .ruled; written = same-part f (onward (w .puts) ek put) }

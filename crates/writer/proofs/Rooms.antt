@@ -8,7 +8,7 @@ use lib.Seq.{take-at}
 use Rattle.rules.specs.Data as rule
 use Rattle.rules.specs.Proper.{proper-rows}
 use Rattle.rules.specs.Meaning.{meaning}
-use Rattle.rules.specs.Written.{canonical}
+use Rattle.rules.specs.Written.{start, canonical}
 use Rattle.rules.specs.Writing.{Writes, long-label, no-table, long-written, short-room, stored}
 use Rattle.rules.proofs.Tables.Judge.{verdict-once}
 use Rattle.table.specs.Judging.{Judges}
@@ -16,60 +16,54 @@ use Rattle.table.specs.Judging as judging
 use Rattle.table.specs.declared.Checked.{Checked}
 use Rattle.table.specs.declared.Checked.the-variants as checked
 use Rattle.parts.specs.Puts.{Puts}
-use Rattle.writer.specs.Passing.{Written, all, beyond, Passed}
+use Rattle.parts.proofs.Laws.{fits, same-part}
+use Rattle.writer.specs.Passing.{passing, Passed}
+use Rattle.writer.proofs.Bounded.{within-all, no-more}
 use Rattle.writer.specs.Answer.{said}
 use Rattle.writer.specs.declared.Writing.the-variants as answers
 
--- a count within the bound is the canonical label's length, and its bytes are there where they fit
-within : {label before after : List ℕ} {rs : List rule.Row} {n : ℕ} → Written label rs before after n → n ≤ 65535 → Puts (canonical (meaning label rs)) before after n
-within (all p) h = p
-within (beyond a b c) h = absurd (omega arith)
+-- a count within the bound is the canonical label's length
+within : {label lent before after : List ℕ} {n : ℕ} (p : Passed label lent before after n) → n ≤ 65535 → Puts (canonical (meaning label (p .rows))) before after n
+within {label} p h = same-part (within-all 0 start rule.outside (meaning label (p .rows)) (omega (arith, p .written .count))) (p .written)
 
-size : {label before after : List ℕ} {rs : List rule.Row} {n : ℕ} → Written label rs before after n → 65535 < n → 65535 < length (canonical (meaning label rs))
-size (all p) h = omega (arith, p .count)
-size (beyond a b c) h = b
+size : {label lent before after : List ℕ} {n : ℕ} (p : Passed label lent before after n) → 65535 < n → 65535 < length (canonical (meaning label (p .rows)))
+size {label} p h = omega (arith, p .written .count, no-more 0 start rule.outside (meaning label (p .rows)))
 
-same-rows : {rs qs : List rule.Row} → proper-rows rs ≡ proper-rows qs → rs ≡ qs
+pub same-rows : {rs qs : List rule.Row} → proper-rows rs ≡ proper-rows qs → rs ≡ qs
 same-rows e = cc
 
 pub too-long : {label lent own own′ : List ℕ} {n : ℕ} (out : List ℕ) → length label ≤ 65535 → Passed label lent own own′ n → 65535 < n → Writes label lent out (said answers.TooLongWritten) out
-too-long out short p h = long-written short (p .proper) (size (p .written) h)
+too-long out short p h = long-written short (p .proper) (size p h)
 
 pub no-room : {label lent own own′ : List ℕ} {n : ℕ} (out : List ℕ) → length label ≤ 65535 → Passed label lent own own′ n → n ≤ 65535 → length out < n → Writes label lent out (said (answers.NoRoom n)) out
 no-room {label} {lent} out short p small h =
-    let P = within (p .written) small in
+    let P = within p small in
     subst (λ (k : ℕ). Writes label lent out (said (answers.NoRoom k)) out) (sym (P .count)) (short-room short (p .proper) (omega (arith, P .count)) (omega (arith, P .count)))
 
 -- copied from an array of its own
 pub copied : {label lent own own′ : List ℕ} {n : ℕ} (out : List ℕ) {out′ w : List ℕ} {r : ℕ} → length label ≤ 65535 → Passed label lent own own′ n → n ≤ 65535 → w ≡ take (n - 0) (drop 0 own′) → n ≤ length own → n ≤ length out →
     Puts w out out′ r → Writes label lent out (said (answers.Written n)) out′
 copied {label} {lent} {own} {own′} {n} out {out′} {w} short p small e f h q =
-    let P = within (p .written) small in
-    let o : own′ ≡ canonical (meaning label (p .rows)) ++ drop (length (canonical (meaning label (p .rows)))) own = P .bytes (omega (arith, P .count)) in
+    let P = within p small in
+    let o : own′ ≡ canonical (meaning label (p .rows)) ++ drop (length (canonical (meaning label (p .rows)))) own = fits P (omega (arith, P .count)) in
     let i : length (canonical (meaning label (p .rows))) ≡ n - 0 = omega (arith, P .count) in
     let j : w ≡ canonical (meaning label (p .rows)) = e ∙ ap (take (n - 0)) o ∙ take-at (canonical (meaning label (p .rows))) (drop (length (canonical (meaning label (p .rows)))) own) (n - 0) i in
     let k : length w ≤ length out = omega (arith, ap length j, P .count) in
-    let b : out′ ≡ canonical (meaning label (p .rows)) ++ drop (length (canonical (meaning label (p .rows)))) out = q .bytes k ∙ ap (λ (l : List ℕ). l ++ drop (length l) out) j in
+    let b : out′ ≡ canonical (meaning label (p .rows)) ++ drop (length (canonical (meaning label (p .rows)))) out = fits q k ∙ ap (λ (l : List ℕ). l ++ drop (length l) out) j in
     subst (λ (l : List ℕ). Writes label lent out (said (answers.Written n)) l) (sym b)
     (subst (λ (z : ℕ). Writes label lent out (said (answers.Written z)) (canonical (meaning label (p .rows)) ++ drop (length (canonical (meaning label (p .rows)))) out)) (sym (P .count))
     (stored short (p .proper) (omega (arith, P .count)) (omega (arith, P .count))))
-
--- the canonical label is not too long: whatever is counted is all of it
-whole : {label before after : List ℕ} {rs : List rule.Row} {m n : ℕ} → length (canonical (meaning label rs)) ≡ n → n ≤ 65535 → Written label rs before after m → Puts (canonical (meaning label rs)) before after m
-whole c h (all p) = p
-whole c h (beyond a b d) = absurd (omega arith)
 
 -- passed a second time, straight into the room
 pub passed-again : {label lent own own′ : List ℕ} {n : ℕ} (out : List ℕ) {out′ : List ℕ} {m : ℕ} → length label ≤ 65535 → Passed label lent own own′ n → n ≤ 65535 → n ≤ length out → Passed label lent out out′ m →
     Writes label lent out (said (answers.Written m)) out′
 passed-again {label} {lent} {n = n} out {out′} {m} short p small h q =
-    let P = within (p .written) small in
     let s : p .rows ≡ q .rows = same-rows (verdict-once label short lent (p .proper) (q .proper)) in
-    let c : length (canonical (meaning label (q .rows))) ≡ n = sym (P .count ∙ ap (λ (l : List rule.Row). length (canonical (meaning label l))) s) in
-    let u : Puts (canonical (meaning label (q .rows))) out out′ m = whole c small (q .written) in
-    subst (λ (l : List ℕ). Writes label lent out (said (answers.Written m)) l) (sym (u .bytes (omega arith)))
+    let e : m ≡ n = q .written .count ∙ ap (λ (l : List rule.Row). length (passing 0 start rule.outside (meaning label l))) (sym s) ∙ sym (p .written .count) in
+    let u : Puts (canonical (meaning label (q .rows))) out out′ m = within q (omega arith) in
+    subst (λ (l : List ℕ). Writes label lent out (said (answers.Written m)) l) (sym (fits u (omega (arith, u .count))))
     (subst (λ (z : ℕ). Writes label lent out (said (answers.Written z)) (canonical (meaning label (q .rows)) ++ drop (length (canonical (meaning label (q .rows)))) out)) (sym (u .count))
-    (stored short (q .proper) (omega arith) (omega arith)))
+    (stored short (q .proper) (omega (arith, u .count)) (omega (arith, u .count))))
 
 -- ---- before any pass
 

@@ -1,14 +1,15 @@
 -- What one pass over the rows of a proper table writes. Terms of private contracts.
-use Prim.Native.Nat.{ℕ, _≤_, _<_}
-use mathlib.Core.Bool.{Bool, false}
+use Prim.Native.Nat.{ℕ, _+_, _≤_, _<_}
+use mathlib.Core.Bool.{Bool, false, cond}
 use mathlib.Core.Path.{_≡_}
-use mathlib.Core.List.{List, [], _∷_, map}
+use mathlib.Core.List.{List, [], _∷_, _++_, map}
+use lib.Dec.{leb}
 use lib.ListN.{length}
 use Rattle.rules.specs.Bytes.{fold}
 use Rattle.rules.specs.Data as rule
 use Rattle.rules.specs.Proper.{stretch, proper-rows, Ruled}
-use Rattle.rules.specs.Meaning.{meaning}
-use Rattle.rules.specs.Written.{canonical}
+use Rattle.rules.specs.Meaning.{Sense, meaning}
+use Rattle.rules.specs.Written.{Prior, start, prior, after, writes}
 use Rattle.rows.specs.Rows.{span, kindOf}
 use Rattle.rows.specs.declared.Row.{Row}
 use Rattle.rows.specs.declared.Row.the-variants as rows
@@ -53,12 +54,12 @@ pub record Nested (b : Blocks) (row : Row) (r : Blocks) : Type 0 where
 pub record Nests (row : Row) (r : Bool) : Type 0 where
   pub still : r ≡ false → (bs : List Block) → nestedIn bs row ≡ bs
 
--- the canonical label, where it fits the room; or that it is over 65,535 bytes
-pub data Written (label : List ℕ) (rows : List rule.Row) (before after : List ℕ) (n : ℕ) : Type 0 where
-  all : Puts (canonical (meaning label rows)) before after n → Written label rows before after n
-  beyond : 65535 < n → 65535 < length (canonical (meaning label rows)) → length after ≡ length before → Written label rows before after n
+-- what a pass writes of these rows after so many bytes: each up to the one that takes the count over 65,535, or all and the last line's end
+abbrev pub passing : ℕ → Prior → rule.Opens → List Sense → List ℕ
+passing n q o [] = 13 ∷ 10 ∷ []
+passing n q o (r ∷ rs) = writes q o r ++ cond (leb (n + length (writes q o r)) 65535) (passing (n + length (writes q o r)) (prior r) (after o r) rs) []
 
 pub record Passed (label lent before after : List ℕ) (n : ℕ) : Type 0 where
   pub rows : List rule.Row
   pub proper : Ruled label lent (proper-rows rows)
-  pub written : Written label rows before after n
+  pub written : Puts (passing 0 start rule.outside (meaning label rows)) before after n

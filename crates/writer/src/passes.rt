@@ -52,7 +52,7 @@ fn nests(row: Row) -> bool
     }
 }
 
-// The label's bytes are in the room where they fit; the count stops growing once it is over 65,535. From and upto hold the innermost block's name.
+// The rows are laid as far as the room reaches; the pass stops with the row that takes the count over 65,535. From and upto hold the innermost block's name.
 pub fn pass(label: &[u8], lent: &[u8], out: &mut [u8]) -> usize
     requires { ⌜ (length (now label) ≤ 65535) × Judges (now label) (now lent) Checked.Proper ⌝ }
     ensures { λ r. ⌜ Passed (now (label .entry)) (now (lent .entry)) (now (out .entry)) (now (out .exit)) r ⌝ }

@@ -5,16 +5,15 @@ use lib.ListN.{length}
 use borrow.Author.Needs.{needs}
 use Rattle.parts.proofs.bytes.put_bytes.Statement.{statement}
 use Rattle.parts.proofs.bytes.put_bytes.Tie as tie
-use Rattle.parts.proofs.Laws.{no-room}
 use Rattle.parts.proofs.Copies.{copy-start, copy-turn, copy-end}
 
-ruleset ways = (no-room, copy-start, copy-turn, copy-end, needs)
+ruleset ways = (copy-start, copy-turn, copy-end, needs)
 
 abbrev Inv-loop : tie.InvT-loop
-Inv-loop out₀ w i₀ out i = Copied w (length w) out₀ out i
+Inv-loop out₀ w e i₀ out i = Copied w (length w) out₀ out e i
 
 abbrev μ-loop : tie.MeasureT-loop
-μ-loop out₀ w i₀ out i = length w - i
+μ-loop out₀ w e i₀ out i = e - i
 
 pub put-bytes-spec : {M : Type 1} → statement M
 put-bytes-spec =

@@ -5,18 +5,18 @@ use lib.ListN.{length}
 use borrow.Author.Needs.{needs}
 use Rattle.parts.proofs.bytes.put_folded.Statement.{statement}
 use Rattle.parts.proofs.bytes.put_folded.Tie as tie
-use Rattle.parts.proofs.Copies.{folded-none, folded-start, folded-turn, folded-end}
+use Rattle.parts.proofs.Copies.{folded-start, folded-turn, folded-end}
 
-ruleset ways = (folded-none, folded-start, folded-turn, folded-end, needs)
+ruleset ways = (folded-start, folded-turn, folded-end, needs)
 
 abbrev Inv-loop : tie.InvT-loop
-Inv-loop out₀ w i₀ out i = Folding w out₀ out i
+Inv-loop out₀ w e i₀ out i = Folding w out₀ out e i
 
 abbrev μ-loop : tie.MeasureT-loop
-μ-loop out₀ w i₀ out i = length w - i
+μ-loop out₀ w e i₀ out i = e - i
 
-returns-2 : tie.Need-returns-2 Inv-loop μ-loop
-returns-2 c = folded-end _ _ _ _ (c .before .loop .inv) (c .loop-test .left)
+returns : tie.Need-returns Inv-loop μ-loop
+returns c = folded-end _ _ _ _ _ (c .before .loop .inv) (c .loop-test .left)
 
 pub put-folded-spec : {M : Type 1} → statement M
 put-folded-spec =
@@ -33,4 +33,4 @@ put-folded-spec =
     (λ c. search ways)
     (λ c. search ways)
     (λ c. search ways)
-    returns-2)
+    returns)
