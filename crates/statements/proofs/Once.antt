@@ -1,5 +1,5 @@
 -- No second outcome meets the contract of a reading: over one label and one room, the answer and the room's last bytes are decided. Of a pass the answer
--- is, and the room where the table fits it.
+-- is, and the room where the table fits it. A reading starts at one place.
 use Prim.Native.Nat.{ℕ, _≤_}
 use native.Mathlib.Omega.{arith}
 use mathlib.Core.Path.{_≡_, refl, sym, ap, ap₂, _∙_}
@@ -13,7 +13,8 @@ use Rattle.rules.specs.Table.{table}
 use Rattle.rules.specs.Reading.{Said, read, Answered}
 use Rattle.rules.proofs.Reading.Reader.{reading-unique, answered-unique}
 use Rattle.statements.specs.Answer.{said}
-use Rattle.statements.specs.Passes.{Passed, follows, is-refused, Ran}
+use Rattle.statements.specs.Passes.{Starts, Passed, follows, is-refused, Ran}
+use Rattle.statements.specs.declared.cursor.Cursor.{Cursor}
 use Rattle.statements.specs.declared.passes.Run.{Run}
 use Rattle.statements.specs.declared.Reading.{Reading}
 use Rattle.statements.specs.declared.Reading.the-variants.{Accepted, TooLong, ForeignByte, LeftOpen, NoForm, PastLimit, Misplaced, OtherName, TooDeep, EndNotSetOff, EndsEarly, NoRoom}
@@ -81,3 +82,11 @@ passed-once s (is-refused {c} {i} j k q) (is-refused {c = c′} {i = i′} j′ 
 pub pass-once : {label before after after′ : List ℕ} {r r′ : Run} → length label ≤ 65535 → Ran label before after r → Ran label before after′ r′ →
     (r .reading ≡ r′ .reading) × ((p n : ℕ) → r .reading ≡ Accepted p n → n ≤ length before → after ≡ after′)
 pass-once s a b = let u = passed-once s (a .passed) (b .passed) in (u .answer, u .room)
+
+pub start-once : {c c′ : Cursor} → Starts c → Starts c′ → c ≡ c′
+start-once {c} {c′} a b =
+    let s : c .state ≡ c′ .state = a .state ∙ sym (b .state) in
+    let o : c .blocks ≡ c′ .blocks = a .blocks ∙ sym (b .blocks) in
+    let i : c .at ≡ c′ .at = a .at ∙ sym (b .at) in
+    let n : c .n ≡ c′ .n = a .n ∙ sym (b .n) in
+    λ k. record { state = s k; blocks = o k; at = i k; n = n k }

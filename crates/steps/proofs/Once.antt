@@ -21,7 +21,7 @@ use Rattle.blocks.specs.Stack.{Block, block, many, topOf}
 use Rattle.blocks.specs.declared.Top as top
 use Rattle.blocks.specs.declared.Top.the-variants as tops
 use Rattle.steps.specs.Decides.{Decides, yes, no}
-use Rattle.steps.specs.States.{placeIn, stateIn, stateOf, fullIn, Sees, Said, stops, goes, Effect, stays, closes, ends, opens, halts, effect, saidOf, said, fieldOf, onlySet, inMode, Settles, Does}
+use Rattle.steps.specs.States.{placeIn, stateIn, stateOf, fullIn, Sees, Said, stops, goes, Effect, stays, closes, ends, opens, halts, effect, saidOf, said, fieldOf, onlySet, inMode, Settles, Does, Met}
 use Rattle.steps.specs.declared.Nest as nest
 use Rattle.steps.specs.declared.Nest.the-variants as nests
 use Rattle.steps.specs.declared.Mode.{Mode}
@@ -226,3 +226,8 @@ decides-once (yes p) (yes q) = refl
 decides-once (yes p) (no n) = absurd (n p)
 decides-once (no n) (yes q) = absurd (n q)
 decides-once (no n) (no k) = refl
+
+-- ---- the mode that an element is met in
+
+pub met-once : {t : State} {e : Element} {m m′ : Mode} → Met t e m → Met t e m′ → m ≡ m′
+met-once a b = a .is ∙ sym (b .is)
