@@ -25,7 +25,7 @@ breaks-code (open-at h) = (omega arith, omega arith)
 breaks-code (foreign h) = (omega arith, omega arith)
 
 fault-code : {m : Mode} {r : List ℕ} {c : ℕ} → Fault m r c → (2 ≤ c) × (c ≤ 10)
-fault-code (no-element h) = (omega arith, omega arith)
+fault-code (no-element f g h k) = (omega arith, omega arith)
 fault-code (no-form x h) = (omega arith, omega arith)
 fault-code (past-limit x h) = (omega arith, omega arith)
 fault-code (broken-text x h b) = breaks-code b
