@@ -21,7 +21,7 @@ use Rattle.table.specs.Ordering.{Nesting}
 use Rattle.table.specs.Judging.{Judges, proper, improper, said, verdictSaid}
 use Rattle.table.specs.declared.Got.{Got}
 use Rattle.table.specs.declared.Checked.{Checked}
-use Rattle.table.specs.declared.Checked.the-variants.{Proper, Improper}
+use Rattle.table.specs.declared.Checked.the-variants.{Improper}
 
 -- ---- numbers
 
