@@ -3,29 +3,42 @@ use Prim.Native.Nat.{ℕ, _≤_}
 use Prim.Native.String.{String}
 use mathlib.Core.Bool.{true, false}
 use mathlib.Core.List.{List, [], _∷_, _++_}
-use lib.ListN.{length, drop}
+use lib.ListN.{length}
 use Rattle.rules.specs.Bytes.{ascii}
-use Rattle.rules.specs.Data.{Span, Row, attribute, an-integer, a-moment, set, set-end, last}
+use Rattle.rules.specs.Data.{Span, Whole, Row, attribute, an-integer, a-moment, set, set-end, last}
 use Rattle.rules.specs.Modes.{base}
 use Rattle.rules.specs.Table.{table}
-use Rattle.rules.specs.Reading.{Outcome, accepted, refused, Reads, Said, Answered}
+use Rattle.rules.specs.Reading.{Outcome, accepted, refused, Reads, Said, Answered, filled}
 use Rattle.rules.specs.Writing.{Writes}
 use Rattle.rules.specs.Asked.{says, Texted, Viewed, Sought}
 
+-- an input, and what a reading of it comes to
 pub record Example : Type 0 where
   pub input : String
   pub result : Outcome
 
+-- the same, in a line
 abbrev pub _gives_ : String → Outcome → Example
 _gives_ s z = record { input = s; result = z }
 
 infix 85 _gives_
+-- a span by its two places
 abbrev pub to : ℕ → ℕ → Span
 to i j = record { from = i; upto = j }
 
+-- the row of a date
 abbrev pub day : ℕ → ℕ → ℕ → Row
-day y m d = a-moment (record { parts = 1; year = y; month = m; day = d; hour = 0; minute = 0; second = 0; nanoseconds = 0; offset = record { minus = false; size = 0 } })
+day y m d =
+    let none : Whole = record { minus = false; size = 0 } in
+    a-moment (record { parts = 1; year = y; month = m; day = d; hour = 0; minute = 0; second = 0; nanoseconds = 0; offset = none })
 
+-- the row of a time: hour, minute, and an offset west of Greenwich
+abbrev pub time-west : ℕ → ℕ → ℕ → Row
+time-west h n w =
+    let west : Whole = record { minus = true; size = w } in
+    a-moment (record { parts = 2; year = 0; month = 0; day = 0; hour = h; minute = n; second = 0; nanoseconds = 0; offset = west })
+
+-- the rows marked P of the checked examples
 abbrev pub examples : List Example
 examples =
     "" gives refused 10 0
@@ -39,7 +52,7 @@ examples =
     ∷ "A={} END" gives accepted (attribute (to 0 1) ∷ set ∷ set-end ∷ last 8 ∷ []) 8
     ∷ "OBJECT=X END_OBJECT=Y END" gives refused 7 20
     ∷ "END;" gives refused 9 0
-    ∷ "A=10:00-00:30 END" gives accepted (attribute (to 0 1) ∷ a-moment (record { parts = 2; year = 0; month = 0; day = 0; hour = 10; minute = 0; second = 0; nanoseconds = 0; offset = record { minus = true; size = 30 } }) ∷ last 17 ∷ []) 17
+    ∷ "A=10:00-00:30 END" gives accepted (attribute (to 0 1) ∷ time-west 10 0 30 ∷ last 17 ∷ []) 17
     ∷ "A=1 /*/ END" gives refused 3 4
     ∷ []
 
@@ -70,13 +83,15 @@ abbrev pub before : ℕ → List ℕ
 before ℕ.zero = []
 before (ℕ.suc n) = 7 ∷ before n
 
--- rows of tables
+-- the row of an attribute whose name is the label's first byte
 abbrev pub attribute-A : List ℕ
 attribute-A = 1 ∷ 0 ∷ 0 ∷ 0 ∷ 1 ∷ []
 
+-- the row of a small integer
 abbrev pub integer-of : ℕ → List ℕ
 integer-of n = 10 ∷ 0 ∷ 0 ∷ 0 ∷ 0 ∷ 0 ∷ 0 ∷ 0 ∷ n ∷ []
 
+-- the last row
 abbrev pub end-at : ℕ → List ℕ
 end-at n = 99 ∷ 0 ∷ n ∷ []
 
@@ -88,9 +103,12 @@ text-table = attribute-A ++ (13 ∷ 0 ∷ 3 ∷ 0 ∷ 13 ∷ end-at 18)
 abbrev pub group-label : List ℕ
 group-label = ascii "GROUP=G A=1 END_GROUP A=2 END"
 
+-- its table
 abbrev pub group-table : List ℕ
-group-table = 5 ∷ 0 ∷ 6 ∷ 0 ∷ 7 ∷ 1 ∷ 0 ∷ 8 ∷ 0 ∷ 9 ∷ (integer-of 1 ++ (6 ∷ 1 ∷ 0 ∷ 22 ∷ 0 ∷ 23 ∷ (integer-of 2 ++ end-at 29)))
+group-table =
+    5 ∷ 0 ∷ 6 ∷ 0 ∷ 7 ∷ 1 ∷ 0 ∷ 8 ∷ 0 ∷ 9 ∷ (integer-of 1 ++ (6 ∷ 1 ∷ 0 ∷ 22 ∷ 0 ∷ 23 ∷ (integer-of 2 ++ end-at 29)))
 
+-- what no theorem pins, worked out by hand from the paper
 abbrev pub calls : List Call
 calls =
     -- a comment runs to its `*/`, and the rest of that line is ignored: the first END is no element
@@ -100,7 +118,8 @@ calls =
     -- 11: place as for 0, the length is the one needed, the room as it was
     ∷ reads (ascii "A=1 END") (before 16) (says 11 7 17) (before 16)
     ∷ writes (ascii "A=1 END") (attribute-A ++ (integer-of 1 ++ end-at 7)) (before 11) (says 11 12 12) (before 11)
-    ∷ writes (ascii "A=1 END") (attribute-A ++ (integer-of 1 ++ end-at 7)) (before 13) (says 0 12 12) (ascii "A = 1\r\nEND\r\n" ++ before 1)
+    ∷ writes (ascii "A=1 END") (attribute-A ++ (integer-of 1 ++ end-at 7)) (before 13) (says 0 12 12)
+    (ascii "A = 1\r\nEND\r\n" ++ before 1)
     -- 12: a row that no proper table has there, the end of a sequence; one that is cut short; whole rows are lacking
     ∷ writes (ascii "A=1 END") (attribute-A ++ (21 ∷ (integer-of 1 ++ end-at 7))) (before 2) (says 12 5 0) (before 2)
     ∷ writes (ascii "A=1 END") (attribute-A ++ (10 ∷ 0 ∷ 0 ∷ [])) (before 2) (says 12 5 0) (before 2)
@@ -111,7 +130,8 @@ calls =
     -- 11: the text's length, with place 0; 15: the row of a name is no text
     ∷ takes-text (ascii "A=\"Jupi-\r\nter\" END") text-table 5 (before 6) (says 11 0 7) (before 6)
     ∷ takes-text (ascii "A=\"Jupi-\r\nter\" END") text-table 0 (before 6) (says 15 0 0) (before 6)
-    -- a lookup passes over a block whole, stays within the block of its row, and takes a closing row for one of the block it closes; 15: the row of a number
+    -- a lookup passes over a block whole, stays within the block of its row, and takes a closing row for one of the block it closes
+    -- 15: the row of a number
     ∷ looks-up group-label group-table (ascii "a") 0 (says 0 0 20)
     ∷ looks-up group-label group-table (ascii "a") 5 (says 0 0 5)
     ∷ looks-up group-label group-table (ascii "a") 19 (says 14 0 0)
@@ -129,7 +149,8 @@ pub record Relabelled (label after : List ℕ) : Type 0 where
   pub rows : List Row
   pub past : ℕ
   pub read : Reads base label (accepted rows past)
-  pub written : (room : List ℕ) → length after ≤ length room → Writes label (table rows) room (says 0 (length after) (length after)) (after ++ drop (length after) room)
+  pub written : (room : List ℕ) → length after ≤ length room →
+      Writes label (table rows) room (says 0 (length after) (length after)) (filled after room)
 
 -- what the rules say of each
 abbrev pub CallHolds : Call → Type 0
@@ -140,6 +161,7 @@ CallHolds (looks-up label lent name row s) = Sought label lent name row s
 CallHolds (views label lent row p) = Viewed label lent row p
 CallHolds (relabels label after) = Relabelled label after
 
+-- and of all
 abbrev pub CallsHold : List Call → Type 0
 CallsHold [] = Unit {0}
 CallsHold (x ∷ xs) = CallHolds x × CallsHold xs
