@@ -1,6 +1,6 @@
 -- A copy from the start, one byte a turn, as far as the room reaches.
 use Prim.Native.Nat.{ℕ, _+_, _≤_, _<_, suc, min}
-use mathlib.Core.Path.{_≡_, refl, sym, ap, _∙_}
+use mathlib.Core.Path.{_≡_, refl, sym, _∙_}
 use mathlib.Core.List.{List, _++_, map}
 use native.Mathlib.Nat.{le-of-lt, le-refl}
 use native.Mathlib.Decide.{decLe}

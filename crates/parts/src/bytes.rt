@@ -38,9 +38,9 @@ pub fn put_bytes(out: &mut [u8], w: &[u8]) -> usize
 pub fn put_folded(out: &mut [u8], w: &[u8]) -> usize
     ensures { λ r. ⌜ Puts (map fold (now (w .entry))) (now (out .entry)) (now (out .exit)) r × (r ≡ length (now (w .entry))) ⌝ }
 {
-    let e = least(w.len(), out.len());
+    let k = least(w.len(), out.len());
     let mut i = 0;
-    while i < e {
+    while i < k {
         out[i] = folded(w[i]);
         i += 1;
     }

@@ -39,21 +39,17 @@ module _ {q : rule.Prior} {d : ℕ} {room a b : List ℕ} {n m : ℕ} where
 -- the code's own name of what a row leaves
 abbrev ofRule : rule.Prior → Prior
 ofRule rule.start = priors.Start
-ofRule rule.line = priors.Line
-ofRule rule.assigned = priors.Assigned
+ofRule rule.heading = priors.Heading
 ofRule rule.member = priors.Member
 ofRule rule.factor = priors.Factor
 ofRule rule.bracket = priors.Bracket
-ofRule rule.row = priors.Row
 
 again : (q : Prior) → ofRule (priorOf q) ≡ q
 again priors.Start = refl
-again priors.Line = refl
-again priors.Assigned = refl
+again priors.Heading = refl
 again priors.Member = refl
 again priors.Factor = refl
 again priors.Bracket = refl
-again priors.Row = refl
 
 pub leaves-once : {q : rule.Prior} {row : Row} {u v : Prior} → Leaves q row (priorOf u) → Leaves q row (priorOf v) → u ≡ v
 leaves-once {u = u} {v = v} x y = sym (again u) ∙ ap ofRule (x .is ∙ sym (y .is)) ∙ again v

@@ -14,12 +14,10 @@ use Rattle.printing.specs.declared.Prior.the-variants as priors
 
 abbrev pub priorOf : Prior → rule.Prior
 priorOf priors.Start = rule.start
-priorOf priors.Line = rule.line
-priorOf priors.Assigned = rule.assigned
+priorOf priors.Heading = rule.heading
 priorOf priors.Member = rule.member
 priorOf priors.Factor = rule.factor
 priorOf priors.Bracket = rule.bracket
-priorOf priors.Row = rule.row
 
 -- the innermost block, where one is open, has this name
 abbrev pub Innermost : List ℕ → Opens → Type 0

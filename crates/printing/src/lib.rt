@@ -30,15 +30,13 @@ ghost use Rattle.rules.specs.Proper.{stretch};
 ghost use Rattle.rows.specs.Rows.{span};
 ghost use Rattle.printing.specs.Lines.{priorOf, RowPut, Leaves};
 
-// What the row before leaves: nothing is written yet; a whole line; `NAME =`; a scalar; a unit; a bracket; a row of a sequence of sequences.
+// What the row before leaves: nothing yet, in the label or in its bracket; a line's heading; a scalar; a unit; a closing bracket.
 pub enum Prior {
     Start,
-    Line,
-    Assigned,
+    Heading,
     Member,
     Factor,
     Bracket,
-    Row,
 }
 
 // Decimals: how many, and the number that they are the digits of.
@@ -69,21 +67,21 @@ pub fn prior_after(q: Prior, row: Row) -> Prior
 {
     match row {
         Row::Nothing => q,
-        Row::Attribute(_, _) => Prior::Assigned,
-        Row::Pointer(_, _) => Prior::Assigned,
-        Row::Open(_, _, _) => Prior::Line,
-        Row::Close(_) => Prior::Line,
+        Row::Attribute(_, _) => Prior::Heading,
+        Row::Pointer(_, _) => Prior::Heading,
+        Row::Open(_, _, _) => Prior::Heading,
+        Row::Close(_) => Prior::Heading,
         Row::Integer(_, _) => Prior::Member,
         Row::Float(_) => Prior::Member,
         Row::Time(_) => Prior::Member,
         Row::Text(_, _) => Prior::Member,
         Row::Symbol(_, _) => Prior::Member,
         Row::Unit(_, _, _, _, _) => Prior::Factor,
-        Row::Sequence => Prior::Bracket,
-        Row::SequenceEnd => Prior::Row,
-        Row::Set => Prior::Bracket,
+        Row::Sequence => Prior::Start,
+        Row::SequenceEnd => Prior::Bracket,
+        Row::Set => Prior::Start,
         Row::SetEnd => Prior::Bracket,
-        Row::Last(_) => Prior::Line,
+        Row::Last(_) => Prior::Heading,
         Row::Stop(_, _) => q,
     }
 }

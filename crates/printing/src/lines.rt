@@ -15,12 +15,10 @@ pub fn put_units_end(out: &mut [u8], q: Prior) -> usize
 {
     match q {
         Prior::Start => 0,
-        Prior::Line => 0,
-        Prior::Assigned => 0,
+        Prior::Heading => 0,
         Prior::Member => 0,
         Prior::Factor => put_byte(out, b'>'),
         Prior::Bracket => 0,
-        Prior::Row => 0,
     }
 }
 
@@ -35,13 +33,11 @@ fn put_gap(out: &mut [u8], q: Prior) -> usize
     ensures { λ r. ⌜ Puts (lead (priorOf q)) (now (out .entry)) (now (out .exit)) r × (r ≤ 2) ⌝ }
 {
     match q {
-        Prior::Start => put_bytes(out, b" "),
-        Prior::Line => put_bytes(out, b" "),
-        Prior::Assigned => put_bytes(out, b" "),
+        Prior::Start => 0,
+        Prior::Heading => put_bytes(out, b" "),
         Prior::Member => put_bytes(out, b", "),
         Prior::Factor => put_bytes(out, b", "),
-        Prior::Bracket => 0,
-        Prior::Row => put_between_rows(out),
+        Prior::Bracket => put_between_rows(out),
     }
 }
 
@@ -60,12 +56,10 @@ fn put_line_break(out: &mut [u8], q: Prior) -> usize
 {
     match q {
         Prior::Start => 0,
-        Prior::Line => put_bytes(out, b"\r\n"),
-        Prior::Assigned => put_bytes(out, b"\r\n"),
+        Prior::Heading => put_bytes(out, b"\r\n"),
         Prior::Member => put_bytes(out, b"\r\n"),
         Prior::Factor => put_bytes(out, b"\r\n"),
         Prior::Bracket => put_bytes(out, b"\r\n"),
-        Prior::Row => put_bytes(out, b"\r\n"),
     }
 }
 

@@ -92,63 +92,59 @@ exponentBytes w = cond (isOne w) [] (ascii "**" ++ decimal w)
 
 -- ---- between one row and the next
 
--- what the row before is: none; a whole line; a name, before its value; a scalar; a unit; a bracket; the end of a sequence, which may be a
--- row of another
+-- The bytes between two rows are set by both: a comma, a space, a line's end, the `>` of units, or nothing. Each row writes what stands
+-- before it, so what it needs to know of the rows before is one of these five: nothing yet, in the label or in its bracket; a line's
+-- heading; a scalar; a unit; a closing bracket.
 pub data Prior : Type 0 where
-  start line assigned member factor bracket row : Prior
+  start heading member factor bracket : Prior
 
 -- what each row is to the next
 abbrev pub prior : Sense → Prior
-prior (attribute n) = assigned
-prior (pointer n) = assigned
-prior (opened k n) = line
-prior (closed k) = line
+prior (attribute n) = heading
+prior (pointer n) = heading
+prior (opened k n) = heading
+prior (closed k) = heading
 prior (an-integer w) = member
 prior (a-real x) = member
 prior (a-moment t) = member
 prior (a-text w) = member
 prior (a-symbol w) = member
 prior (a-unit op n w) = factor
-prior sequence = bracket
-prior sequence-end = row
-prior set = bracket
+prior sequence = start
+prior sequence-end = bracket
+prior set = start
 prior set-end = bracket
-prior (last n) = line
+prior (last n) = heading
 
 -- `<KM*SEC**-2>`: the last unit is closed by whatever row comes next
 abbrev pub unitsEnd : Prior → List ℕ
 unitsEnd start = []
-unitsEnd line = []
-unitsEnd assigned = []
+unitsEnd heading = []
 unitsEnd member = []
 unitsEnd factor = ascii ">"
 unitsEnd bracket = []
-unitsEnd row = []
 
 -- `((a, b)(c))`: rows side by side
 abbrev pub betweenRows : List ℕ
 betweenRows = []
 
--- `NAME = value`, `(a, b)`, `{a, b}`: a space before a value, comma and space between members, nothing after a bracket.
--- No value follows a whole line.
+-- `NAME = value`, `(a, b)`, `{a, b}`: before a value, nothing where a bracket has just opened, a space behind `NAME =`, comma and space
+-- between members
 abbrev pub lead : Prior → List ℕ
-lead start = ascii " "
-lead line = ascii " "
-lead assigned = ascii " "
+lead start = []
+lead heading = ascii " "
 lead member = ascii ", "
 lead factor = ascii ", "
-lead bracket = []
-lead row = betweenRows
+lead bracket = betweenRows
 
--- Lines end CR LF.
+-- Lines end CR LF: before a line, its predecessor's end, and nothing before the first; behind a heading where no value follows, as
+-- `OBJECT = NAME`.
 abbrev pub lineBreak : Prior → List ℕ
 lineBreak start = []
-lineBreak line = 13 ∷ 10 ∷ []
-lineBreak assigned = 13 ∷ 10 ∷ []
+lineBreak heading = 13 ∷ 10 ∷ []
 lineBreak member = 13 ∷ 10 ∷ []
 lineBreak factor = 13 ∷ 10 ∷ []
 lineBreak bracket = 13 ∷ 10 ∷ []
-lineBreak row = 13 ∷ 10 ∷ []
 
 -- Two spaces per depth;
 unfoldable pub indent : ℕ → List ℕ

@@ -2,7 +2,6 @@
 use Prim.Native.Nat.{ℕ, _+_, _≤_, _<_}
 use native.Mathlib.Decide.{decLe}
 use native.Mathlib.Omega.{arith}
-use mathlib.Core.Bool.{cond}
 use mathlib.Core.Path.{_≡_, refl, sym, ap, _∙_}
 use mathlib.Core.List.{List, [], _∷_, _++_, append-assoc, append-nil}
 use borrow.Author.Tests.{le-leb, lt-leb}
@@ -28,7 +27,6 @@ goes-on n q o (x ∷ xs) ys h =
 -- all rows, and the last line's end
 pub to-the-end : (xs : List Sense) → length (soFar xs) ≤ 65535 → soFar xs ++ (13 ∷ 10 ∷ []) ≡ passing 0 start outside xs
 to-the-end xs h =
-    let e : 0 + length (soFar xs) ≡ length (soFar xs) = omega arith in
     let p = goes-on 0 start outside xs [] (omega (arith, h)) in
     sym p ∙ ap (passing 0 start outside) (append-nil xs)
 

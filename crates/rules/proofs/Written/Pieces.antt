@@ -7,7 +7,7 @@ use mathlib.Core.List.{List, [], _∷_, _++_, append-assoc, append-nil}
 use Rattle.rules.specs.Bytes.{ascii}
 use Rattle.rules.specs.Data.{Whole, Name, Fixed, equals, comma, star, slash, caret, less, greater, lpar, rpar, lbrace, rbrace, power, Elem, name, the, end, integer, real, moment, text, symbol, opener, closer, Op, first, times, divided, Opens, outside, inside, depth, attribute, pointer, opened, closed, an-integer, a-real, a-moment, a-text, a-symbol, a-unit, sequence, sequence-end, set, set-end, last}
 use Rattle.rules.specs.Meaning.{Sense}
-use Rattle.rules.specs.Written.{decimal, realBytes, momentBytes, isName, symbolBytes, opSign, isOne, openWord, closeWord, Prior, start, line, assigned, member, factor, bracket, row, prior, unitsEnd, lead, newLine, around, after, repeats, writes, writesAll, canonical}
+use Rattle.rules.specs.Written.{decimal, realBytes, momentBytes, isName, symbolBytes, opSign, isOne, openWord, closeWord, Prior, start, heading, member, factor, bracket, prior, unitsEnd, lead, newLine, around, after, repeats, writes, writesAll, canonical}
 
 pub record Piece : Type 0 where
   pub gap : List ℕ
@@ -53,12 +53,10 @@ opPiece divided = sign [] (byte "/" ∷ []) slash
 -- after units, `>`
 abbrev pub closing : Prior → List Piece
 closing start = []
-closing line = []
-closing assigned = []
+closing heading = []
 closing member = []
 closing factor = sign [] (byte ">" ∷ []) greater ∷ []
 closing bracket = []
-closing row = []
 
 -- between two rows
 abbrev pub rowPieces : List Piece
@@ -67,22 +65,18 @@ rowPieces = []
 -- between members, a comma
 abbrev pub apart : Prior → List Piece
 apart start = []
-apart line = []
-apart assigned = []
+apart heading = []
 apart member = sign [] (byte "," ∷ []) comma ∷ []
 apart factor = sign [] (byte ">" ∷ []) greater ∷ sign [] (byte "," ∷ []) comma ∷ []
-apart bracket = []
-apart row = rowPieces
+apart bracket = rowPieces
 
--- before a value: a space after `=` and after a comma, none after a bracket
+-- before a value: a space after `=` and after a comma, none in or after a bracket
 abbrev pub before : Prior → List ℕ
-before start = space
-before line = space
-before assigned = space
+before start = []
+before heading = space
 before member = space
 before factor = space
 before bracket = []
-before row = []
 
 -- ---- rows
 
@@ -129,21 +123,17 @@ bytes-append (p ∷ ps) qs = simp (append-assoc, bytes-append ps qs)
 
 closing-bytes : (q : Prior) → bytesOf (closing q) ≡ unitsEnd q
 closing-bytes start = refl
-closing-bytes line = refl
-closing-bytes assigned = refl
+closing-bytes heading = refl
 closing-bytes member = refl
 closing-bytes factor = refl
 closing-bytes bracket = refl
-closing-bytes row = refl
 
 apart-bytes : (q : Prior) (s : List ℕ) → bytesOf (apart q) ++ (before q ++ s) ≡ unitsEnd q ++ (lead q ++ s)
 apart-bytes start s = refl
-apart-bytes line s = refl
-apart-bytes assigned s = refl
+apart-bytes heading s = refl
 apart-bytes member s = refl
 apart-bytes factor s = refl
 apart-bytes bracket s = refl
-apart-bytes row s = refl
 
 -- behind what closes the row before
 after-closing : (q : Prior) (ps : List Piece) (s : List ℕ) → bytesOf ps ≡ s → bytesOf (closing q ++ ps) ≡ unitsEnd q ++ s

@@ -10,7 +10,7 @@ use borrow.Author.Tests.{ne-eqb, le-leb}
 use lib.Dec.{leb, eqb}
 use lib.ListN.{length, length-append}
 use Rattle.rules.specs.Values.{each}
-use Rattle.rules.specs.Written.{isOne, isName, decimal, realBytes, momentBytes, openWord, closeWord, Prior, start, line, assigned, member, factor, bracket, row, prior, indent, newLine, after, around, canonical}
+use Rattle.rules.specs.Written.{isOne, isName, decimal, realBytes, momentBytes, openWord, closeWord, Prior, start, heading, member, factor, bracket, prior, indent, newLine, after, around, canonical}
 use Rattle.rules.specs.Proper.{Each, theRules}
 use Rattle.rules.specs.Bytes.{between, wordByte, front, All, ascii}
 use Rattle.rules.specs.Data.{Whole, Fixed, equals, comma, caret, less, greater, lpar, rpar, lbrace, rbrace, power, Elem, name, the, end, integer, real, moment, text, symbol, _on_, Kind, object, group, opener, closer, Op, first, times, divided, Opens, outside, inside, depth, attribute, pointer, opened, closed, an-integer, a-real, a-moment, a-text, a-symbol, a-unit, sequence, sequence-end, set, set-end, last}
@@ -68,24 +68,20 @@ gap-indent (suc d) l = blank refl (blank refl (gap-indent d l))
 
 gap-line : (q : Prior) (d : ℕ) (l : List ℕ) → Gap theRules (newLine q d) l
 gap-line start d l = gap-indent d l
-gap-line line d l = blank refl (blank refl (gap-indent d l))
-gap-line assigned d l = blank refl (blank refl (gap-indent d l))
+gap-line heading d l = blank refl (blank refl (gap-indent d l))
 gap-line member d l = blank refl (blank refl (gap-indent d l))
 gap-line factor d l = blank refl (blank refl (gap-indent d l))
 gap-line bracket d l = blank refl (blank refl (gap-indent d l))
-gap-line row d l = blank refl (blank refl (gap-indent d l))
 
 gap-space : (l : List ℕ) → Gap theRules space l
 gap-space l = blank refl no-gap
 
 gap-before : (q : Prior) (l : List ℕ) → Gap theRules (before q) l
-gap-before start l = gap-space l
-gap-before line l = gap-space l
-gap-before assigned l = gap-space l
+gap-before start l = no-gap
+gap-before heading l = gap-space l
 gap-before member l = gap-space l
 gap-before factor l = gap-space l
 gap-before bracket l = no-gap
-gap-before row l = no-gap
 
 -- ---- signs and words
 
@@ -127,32 +123,26 @@ symbol-spelled g h w r c k false e =
 -- after these no word byte may follow at once
 abbrev Ends : Prior → Type 0
 Ends start = ⊥
-Ends line = Unit {0}
-Ends assigned = Unit {0}
+Ends heading = Unit {0}
 Ends member = Unit {0}
 Ends factor = Unit {0}
 Ends bracket = ⊥
-Ends row = ⊥
 
 line-first : (q : Prior) → Ends q → (d : ℕ) (m w : List ℕ) (e : Elem) (ps : List Piece) (r : List ℕ) →
     inWord (bytesOf (closing q ++ (record { gap = newLine q d; mark = m; word = w; elem = e } ∷ ps)) ++ r) ≡ false
 line-first start h d m w e ps r = absurd h
-line-first line h d m w e ps r = refl
-line-first assigned h d m w e ps r = refl
+line-first heading h d m w e ps r = refl
 line-first member h d m w e ps r = refl
 line-first factor h d m w e ps r = refl
 line-first bracket h d m w e ps r = absurd h
-line-first row h d m w e ps r = absurd h
 
 apart-first : (q : Prior) → Ends q → (m w : List ℕ) (e : Elem) (ps : List Piece) (r : List ℕ) →
     inWord (bytesOf (apart q ++ (record { gap = before q; mark = m; word = w; elem = e } ∷ ps)) ++ r) ≡ false
 apart-first start h m w e ps r = absurd h
-apart-first line h m w e ps r = refl
-apart-first assigned h m w e ps r = refl
+apart-first heading h m w e ps r = refl
 apart-first member h m w e ps r = refl
 apart-first factor h m w e ps r = refl
 apart-first bracket h m w e ps r = absurd h
-apart-first row h m w e ps r = absurd h
 
 symbol-first : (q : Prior) → Ends q → (w : List ℕ) (b : Bool) (r : List ℕ) → inWord (bytesOf (apart q ++ (symbolPiece (before q) w b ∷ [])) ++ r) ≡ false
 symbol-first q h w true r = apart-first q h [] w (name w) [] r
@@ -160,12 +150,10 @@ symbol-first q h w false r = apart-first q h (39 ∷ []) w symbol [] r
 
 end-first : (q : Prior) → Ends q → (b : ℕ) (f : Fixed) (r : List ℕ) → wordByte b ≡ false → inWord (bytesOf (closing q ++ (sign [] (b ∷ []) f ∷ [])) ++ r) ≡ false
 end-first start h b f r k = absurd h
-end-first line h b f r k = k
-end-first assigned h b f r k = k
+end-first heading h b f r k = k
 end-first member h b f r k = k
 end-first factor h b f r k = refl
 end-first bracket h b f r k = absurd h
-end-first row h b f r k = absurd h
 
 op-first : (op : Op) (ps : List Piece) (r : List ℕ) → inWord (bytesOf (opPiece op ∷ ps) ++ r) ≡ false
 op-first first ps r = refl
@@ -203,21 +191,17 @@ rows-first q h o (r ∷ rs) = ap inWord (split-bytes (piecesOf q o r) (pieces (p
 
 closing-spelled : (q : Prior) (ps : List Piece) (r : List ℕ) → AllSpelled ps r → AllSpelled (closing q ++ ps) r
 closing-spelled start ps r h = h
-closing-spelled line ps r h = h
-closing-spelled assigned ps r h = h
+closing-spelled heading ps r h = h
 closing-spelled member ps r h = h
 closing-spelled factor ps r h = (a-sign-spelled [] (λ l. no-gap) 62 greater _ refl, h)
 closing-spelled bracket ps r h = h
-closing-spelled row ps r h = h
 
 apart-spelled : (q : Prior) (ps : List Piece) (r : List ℕ) → AllSpelled ps r → AllSpelled (apart q ++ ps) r
 apart-spelled start ps r h = h
-apart-spelled line ps r h = h
-apart-spelled assigned ps r h = h
+apart-spelled heading ps r h = h
 apart-spelled member ps r h = (a-sign-spelled [] (λ l. no-gap) 44 comma _ refl, h)
 apart-spelled factor ps r h = (a-sign-spelled [] (λ l. no-gap) 62 greater _ refl, (a-sign-spelled [] (λ l. no-gap) 44 comma _ refl, h))
 apart-spelled bracket ps r h = h
-apart-spelled row ps r h = h
 
 repeat-spelled : (o : Opens) (r : List ℕ) → Uppers o → inWord r ≡ false → AllSpelled (repeatPieces o) r
 repeat-spelled outside r u h = tt
@@ -367,7 +351,7 @@ set-off t k o sequence-end rs e a = tt
 set-off t k o set rs e a = tt
 set-off t k o set-end rs e a = tt
 set-off t k o (last n) rs e a =
-    subst (λ (l : List Sense). setsOff theRules (bytesOf (pieces line o l) ++ tailBytes) ≡ true) (sym (last-alone t k e a)) refl
+    subst (λ (l : List Sense). setsOff theRules (bytesOf (pieces heading o l) ++ tailBytes) ≡ true) (sym (last-alone t k e a)) refl
 
 rows-spelled : {t : Await} {k : Kinds} (q : Prior) (o : Opens) (rs : List Sense) → Each Clean rs → Each Valued rs → Uppers o → RowRun t k rs t-end [] → AllSpelled (pieces q o rs) tailBytes
 rows-spelled q o rs cs vs u row-here = tt

@@ -9,7 +9,7 @@ use borrow.Author.Tests.{eqb-true}
 use lib.Dec.{eqb}
 use lib.ListN.{length}
 use Rattle.rules.specs.Proper.{theRules, Each, one as also-one}
-use Rattle.rules.specs.Written.{isName, isOne, openWord, closeWord, Prior, assigned, member, factor, bracket, row, prior, newLine, after as opens-after, start}
+use Rattle.rules.specs.Written.{isName, isOne, openWord, closeWord, Prior, heading, member, factor, bracket, prior, newLine, after as opens-after, start}
 use Rattle.rules.specs.Data.{Span, Whole, one, Real, Moment, Name, Fixed, equals, star, slash, caret, less, greater, name, the, end, Placed, _on_, Kind, Kind-discrete, object, group, opener, closer, Op, first, times, divided, Opens, outside, inside, depth, Row, attribute, pointer, opened, closed, an-integer, a-real, a-moment, a-text, a-symbol, a-unit, sequence, sequence-end, set, set-end, last}
 use Rattle.rules.specs.Grammar.{strict, unwritten, Label}
 use Rattle.rules.specs.Meaning.{Sense}
@@ -49,11 +49,11 @@ depth-kinds (inside k n o) = ap suc (depth-kinds o)
 -- what the row before has left, in a state
 pub data Agrees : Await → Prior → Type 0 where
   g-statement : {q : Prior} → closing q ≡ [] → Agrees t-statement q
-  g-value : Agrees t-value assigned
-  g-first : Agrees t-first bracket
-  g-set-first : Agrees t-set-first bracket
-  g-in-row : Agrees t-in-row bracket
-  g-row : Agrees t-row row
+  g-value : Agrees t-value heading
+  g-first : Agrees t-first start
+  g-set-first : Agrees t-set-first start
+  g-in-row : Agrees t-in-row start
+  g-row : Agrees t-row bracket
   g-number : {c : Place} → Agrees (t-number c) member
   g-units : {c : Place} → Agrees (t-units c) factor
   g-member : {g : Group} → Agrees (t-member g) member
@@ -237,22 +237,22 @@ module _ (st : State) (q : Prior) (o : Opens) (c : Place) (a : Else) (lead : (X 
 
 -- ---- brackets
 
-fit-sequence : (o : Opens) → Fit (at-scalar alone any-value) assigned o s-sequence (to t-first (kinds o))
+fit-sequence : (o : Opens) → Fit (at-scalar alone any-value) heading o s-sequence (to t-first (kinds o))
 fit-sequence o r is-sequence v = (refl, g-first, λ n ys qs s. via (at-scalar alone any-value) o _ refl s)
 
-fit-set : (o : Opens) → Fit (at-scalar alone any-value) assigned o s-set (to t-set-first (kinds o))
+fit-set : (o : Opens) → Fit (at-scalar alone any-value) heading o s-set (to t-set-first (kinds o))
 fit-set o r is-set v = (refl, g-set-first, λ n ys qs s. via (at-scalar alone any-value) o _ refl s)
 
-fit-inner : (o : Opens) → Fit (at-scalar (within in-sequence) a-row) bracket o s-sequence (to t-in-row (kinds o))
+fit-inner : (o : Opens) → Fit (at-scalar (within in-sequence) a-row) start o s-sequence (to t-in-row (kinds o))
 fit-inner o r is-sequence v = (refl, g-in-row, λ n ys qs s. via (at-scalar (within in-sequence) a-row) o _ refl s)
 
-fit-empty : (o : Opens) → Fit (at-scalar (within in-set) a-set-end) bracket o s-set-end (to t-statement (kinds o))
+fit-empty : (o : Opens) → Fit (at-scalar (within in-set) a-set-end) start o s-set-end (to t-statement (kinds o))
 fit-empty o r is-set-end v = (refl, g-statement refl, λ n ys qs s. via (at-scalar (within in-set) a-set-end) o _ refl (semicolon-missing theRules strict s))
 
-fit-next-row : (o : Opens) → Fit at-row row o s-sequence (to t-in-row (kinds o))
+fit-next-row : (o : Opens) → Fit at-row bracket o s-sequence (to t-in-row (kinds o))
 fit-next-row o r is-sequence v = (refl, g-in-row, λ n ys qs s. via at-row o _ refl s)
 
-fit-rows-end : (o : Opens) → Fit at-row row o s-sequence-end (to t-statement (kinds o))
+fit-rows-end : (o : Opens) → Fit at-row bracket o s-sequence-end (to t-statement (kinds o))
 fit-rows-end o r is-sequence-end v = (refl, g-statement refl, λ n ys qs s. via at-row o _ refl (semicolon-missing theRules strict s))
 
 fit-sequence-end : (o : Opens) → Fit (at-member in-sequence) member o s-sequence-end (to t-statement (kinds o))
@@ -367,16 +367,16 @@ fit-lines : (t : Await) (q : Prior) (o : Opens) → Agrees t q → AllFit (state
 fit-lines t q o (g-statement h) = fit-statement at-statement q o (λ ys qs s. s) h
 fit-lines t q o g-value =
     let l = plain-lead (at-scalar alone any-value) o in
-    (fit-number (at-scalar alone any-value) assigned o alone any-value l, (fit-other (at-scalar alone any-value) assigned o alone any-value l, (fit-sequence o, (fit-set o, tt))))
+    (fit-number (at-scalar alone any-value) heading o alone any-value l, (fit-other (at-scalar alone any-value) heading o alone any-value l, (fit-sequence o, (fit-set o, tt))))
 fit-lines t q o g-first =
     let l = plain-lead (at-scalar (within in-sequence) a-row) o in
-    (fit-number (at-scalar (within in-sequence) a-row) bracket o (within in-sequence) a-row l, (fit-other (at-scalar (within in-sequence) a-row) bracket o (within in-sequence) a-row l, (fit-inner o, tt)))
+    (fit-number (at-scalar (within in-sequence) a-row) start o (within in-sequence) a-row l, (fit-other (at-scalar (within in-sequence) a-row) start o (within in-sequence) a-row l, (fit-inner o, tt)))
 fit-lines t q o g-set-first =
     let l = plain-lead (at-scalar (within in-set) a-set-end) o in
-    (fit-number (at-scalar (within in-set) a-set-end) bracket o (within in-set) a-set-end l, (fit-other (at-scalar (within in-set) a-set-end) bracket o (within in-set) a-set-end l, (fit-empty o, tt)))
+    (fit-number (at-scalar (within in-set) a-set-end) start o (within in-set) a-set-end l, (fit-other (at-scalar (within in-set) a-set-end) start o (within in-set) a-set-end l, (fit-empty o, tt)))
 fit-lines t q o g-in-row =
     let l = plain-lead (at-scalar (within in-row) no-else) o in
-    (fit-number (at-scalar (within in-row) no-else) bracket o (within in-row) no-else l, (fit-other (at-scalar (within in-row) no-else) bracket o (within in-row) no-else l, tt))
+    (fit-number (at-scalar (within in-row) no-else) start o (within in-row) no-else l, (fit-other (at-scalar (within in-row) no-else) start o (within in-row) no-else l, tt))
 fit-lines t q o g-row = (fit-next-row o, (fit-rows-end o, tt))
 fit-lines t q o (g-number {c}) =
     (fit-first c o, wider-lines (after c) (at-number c) member o (λ ys qs. number-units theRules strict {c = c}) (after-lines c (kinds o)) (fit-after c o))

@@ -1,7 +1,6 @@
 -- `bytes::put_folded` meets its contract.
 use Rattle.parts.proofs.Copies.{Folding}
 use Prim.Native.Nat.{_-_}
-use lib.ListN.{length}
 use borrow.Author.Needs.{needs}
 use Rattle.parts.proofs.bytes.put_folded.Statement.{statement}
 use Rattle.parts.proofs.bytes.put_folded.Tie as tie

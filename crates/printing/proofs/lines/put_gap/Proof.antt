@@ -7,25 +7,19 @@ use Rattle.parts.proofs.Laws.{nothing}
 use mathlib.Core.Path.{refl}
 
 returns : tie.Need-returns
-returns c = lead-is (c .before .before .before .before .before .enum-told .given .1) (c .before .before .put-bytes .ensures) refl
+returns c = lead-is (c .enum-told .given .1) (nothing _) refl
 
 returns-2 : tie.Need-returns-2
-returns-2 c = lead-is (c .before .before .before .before .before .enum-told2 .given .1) (c .before .before .put-bytes2 .ensures) refl
+returns-2 c = lead-is (c .before .before .before .before .before .enum-told2 .given .1) (c .before .before .put-bytes .ensures) refl
 
 returns-3 : tie.Need-returns-3
-returns-3 c = lead-is (c .before .before .before .before .before .enum-told3 .given .1) (c .before .before .put-bytes3 .ensures) refl
+returns-3 c = lead-is (c .before .before .before .before .before .enum-told3 .given .1) (c .before .before .put-bytes2 .ensures) refl
 
 returns-4 : tie.Need-returns-4
-returns-4 c = lead-is (c .before .before .before .before .before .enum-told4 .given .1) (c .before .before .put-bytes4 .ensures) refl
+returns-4 c = lead-is (c .before .before .before .before .before .enum-told4 .given .1) (c .before .before .put-bytes3 .ensures) refl
 
 returns-5 : tie.Need-returns-5
-returns-5 c = lead-is (c .before .before .before .before .before .enum-told5 .given .1) (c .before .before .put-bytes5 .ensures) refl
-
-returns-6 : tie.Need-returns-6
-returns-6 c = lead-is (c .enum-told6 .given .1) (nothing _) refl
-
-returns-7 : tie.Need-returns-7
-returns-7 c = lead-is (c .before .before .before .before .enum-told7 .given .1) (c .before .before .put-between-rows .ensures .0) refl
+returns-5 c = lead-is (c .before .before .before .before .enum-told5 .given .1) (c .before .before .put-between-rows .ensures .0) refl
 
 pub put-gap-spec : {M : Type 1} → statement M
 put-gap-spec =
@@ -33,8 +27,6 @@ put-gap-spec =
     (tie.spec
     (λ c. search needs)
     (λ c. search needs)
-    (λ c κs. search needs)
-    (λ c. search needs)
     (λ c. search needs)
     (λ c κs. search needs)
     (λ c. search needs)
@@ -44,12 +36,7 @@ put-gap-spec =
     (λ c. search needs)
     (λ c κs. search needs)
     (λ c. search needs)
-    (λ c. search needs)
     (λ c κs. search needs)
-    (λ c. search needs)
-    (λ c. search needs)
-    (λ c κs. search needs)
-    (λ c. search needs)
     returns
     (λ c. search needs)
     returns-2
@@ -58,7 +45,4 @@ put-gap-spec =
     (λ c. search needs)
     returns-4
     (λ c. search needs)
-    returns-5
-    returns-6
-    (λ c. search needs)
-    returns-7)
+    returns-5)

@@ -21,23 +21,11 @@ returns-4 c = break-is (c .before .before .before .before .before .enum-told4 .g
 returns-5 : tie.Need-returns-5
 returns-5 c = break-is (c .before .before .before .before .before .enum-told5 .given .1) (c .before .before .put-bytes4 .ensures) refl
 
-returns-6 : tie.Need-returns-6
-returns-6 c = break-is (c .before .before .before .before .before .enum-told6 .given .1) (c .before .before .put-bytes5 .ensures) refl
-
-returns-7 : tie.Need-returns-7
-returns-7 c = break-is (c .before .before .before .before .before .enum-told7 .given .1) (c .before .before .put-bytes6 .ensures) refl
-
 pub put-line-break-spec : {M : Type 1} → statement M
 put-line-break-spec =
     tie.close
     (tie.spec
     (λ c. search needs)
-    (λ c. search needs)
-    (λ c. search needs)
-    (λ c κs. search needs)
-    (λ c. search needs)
-    (λ c. search needs)
-    (λ c κs. search needs)
     (λ c. search needs)
     (λ c. search needs)
     (λ c κs. search needs)
@@ -58,8 +46,4 @@ put-line-break-spec =
     (λ c. search needs)
     returns-4
     (λ c. search needs)
-    returns-5
-    (λ c. search needs)
-    returns-6
-    (λ c. search needs)
-    returns-7)
+    returns-5)
