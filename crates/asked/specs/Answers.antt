@@ -4,7 +4,7 @@ use mathlib.Core.Path.{_≡_}
 use mathlib.Core.List.{List}
 use lib.ListN.{length}
 use Rattle.rules.specs.Data as rule
-use Rattle.rules.specs.Reading.{Said}
+use Rattle.rules.specs.Reading.{longest, Said}
 use Rattle.rules.specs.Proper.{stretch}
 use Rattle.rules.specs.Asked.{says, Viewed}
 use Rattle.rows.specs.Rows.{span}
@@ -16,14 +16,14 @@ use Rattle.asked.specs.declared.Stretch.{Stretch}
 
 abbrev pub textSaid : TextAnswer → Said
 textSaid (texts.Given n) = says 0 0 n
-textSaid texts.TooLong = says 1 65535 0
+textSaid texts.TooLong = says 1 longest 0
 textSaid (texts.Improper p) = says 12 p 0
 textSaid texts.NoText = says 15 0 0
 textSaid (texts.NoRoom n) = says 11 0 n
 
 abbrev pub foundSaid : Finding → Said
 foundSaid (finds.At k) = says 0 0 k
-foundSaid finds.TooLong = says 1 65535 0
+foundSaid finds.TooLong = says 1 longest 0
 foundSaid (finds.Improper p) = says 12 p 0
 foundSaid finds.NoName = says 14 0 0
 foundSaid finds.NoLine = says 15 0 0

@@ -5,7 +5,6 @@ use mathlib.Core.Path.{_≡_}
 use mathlib.Core.List.{List}
 use lib.ListN.{length, getD, take, drop}
 use Rattle.rules.specs.Bytes.{Run}
-use Rattle.rules.specs.Data.{the}
 
 -- the bytes from a place to another
 abbrev pub part : List ℕ → ℕ → ℕ → List ℕ

@@ -1,12 +1,11 @@
 -- What the functions of the crate say of the places of a label.
-use Prim.Native.Nat.{ℕ, _+_, _-_, _≤_, _<_}
+use Prim.Native.Nat.{ℕ, _+_, _≤_, _<_}
 use mathlib.Core.Bool.{true, false}
 use mathlib.Core.Option.{none, some}
 use mathlib.Core.Path.{_≡_}
 use mathlib.Core.List.{List}
 use lib.ListN.{length, getD, drop}
 use Rattle.rules.specs.Bytes.{ascii, among, front, pair}
-use Rattle.rules.specs.Data.{the}
 use Rattle.words.specs.Says.{fixedOf}
 use Rattle.words.specs.declared.Fixed.{Fixed}
 use Rattle.rules.specs.Modes.{base}

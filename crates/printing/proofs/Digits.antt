@@ -1,6 +1,6 @@
 -- Digits of a number, from the last one on: k of them, how many there are, and those of a fraction.
 use Prim.Native.Nat.{ℕ, zero, suc, _+_, _-_, _*_, _/_, _%_, _^_, _≤_, _<_, min}
-use mathlib.Core.Bool.{false, not}
+use mathlib.Core.Bool.{false}
 use mathlib.Core.Path.{_≡_, refl, ap, sym, _∙_}
 use mathlib.Core.List.{List, [], _∷_, _++_}
 use native.Mathlib.Nat.{pow-suc, pow-succ', pow-le-pow-right, div-lt-iff-lt-mul, div-div-eq-div-mul, zero-add, suc-add, le-refl}

@@ -1,5 +1,5 @@
 -- Statements and values, as 12.4 and 12.5 of the source print them: which elements make a label, and the rows that they give.
--- Each type below is a rule of the source's grammar, which stands above it.
+-- Each type below is a rule of the source's grammar, which stands above it, or a help to these, which says so.
 use Prim.Native.Nat.{ℕ, suc, _≤_, _<_}
 use mathlib.Core.Path.{_≡_}
 use mathlib.Core.Bool.{Bool, true}

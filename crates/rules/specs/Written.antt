@@ -157,7 +157,7 @@ newLine q d = lineBreak q ++ indent d
 
 -- ---- the blocks that are open
 
--- the blocks around the innermost
+-- the blocks around the innermost; none is around none, which no proper table comes to
 abbrev pub around : Opens → Opens
 around outside = outside
 around (inside k n o) = o
@@ -190,7 +190,7 @@ abbrev pub closeWord : Kind → List ℕ
 closeWord object = ascii "END_OBJECT"
 closeWord group = ascii "END_GROUP"
 
--- `END_OBJECT = CAM`: a closing line repeats the name
+-- `END_OBJECT = CAM`: a closing line repeats the name; none is open, which no proper table comes to
 abbrev pub repeats : Opens → List ℕ
 repeats outside = []
 repeats (inside k n o) = ascii " = " ++ n

@@ -1,12 +1,12 @@
 -- The answer of a reading, in the paper's numbers.
-use Rattle.rules.specs.Reading.{Said}
+use Rattle.rules.specs.Reading.{longest, Said}
 use Rattle.statements.specs.declared.Reading.{Reading}
 use Rattle.statements.specs.declared.Reading.the-variants.{Accepted, TooLong, ForeignByte, LeftOpen, NoForm, PastLimit, Misplaced, OtherName, TooDeep, EndNotSetOff, EndsEarly, NoRoom}
 
 -- code, place and table length of each answer
 abbrev pub said : Reading → Said
 said (Accepted p n) = record { code = 0; place = p; size = n }
-said TooLong = record { code = 1; place = 65535; size = 0 }
+said TooLong = record { code = 1; place = longest; size = 0 }
 said (ForeignByte p) = record { code = 2; place = p; size = 0 }
 said (LeftOpen p) = record { code = 3; place = p; size = 0 }
 said (NoForm p) = record { code = 4; place = p; size = 0 }

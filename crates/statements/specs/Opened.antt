@@ -1,11 +1,7 @@
 -- What the state holds of the open blocks.
-use Prim.Native.Nat.{ℕ, zero, suc, _≤_}
-use mathlib.Core.Bool.{cond}
-use mathlib.Core.List.{List, [], _∷_}
-use lib.Dec.{leb, eqb}
-use lib.ListN.{getD}
-use Rattle.rows.specs.declared.Kind as kind
-use Rattle.rows.specs.declared.Kind.the-variants as kinds
+use Prim.Native.Nat.{_≤_}
+use mathlib.Core.List.{List}
+use lib.Dec.{leb}
 use Rattle.steps.specs.States.{Sees, Room}
 use Rattle.blocks.specs.Stack.{Block, many, topOf, blocksOf}
 use Rattle.steps.specs.declared.State.{State}

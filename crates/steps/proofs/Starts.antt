@@ -30,7 +30,7 @@ use Rattle.blocks.specs.declared.Top as top
 use Rattle.blocks.specs.declared.Top.the-variants as tops
 use Rattle.steps.specs.declared.State.{State}
 use Rattle.steps.specs.declared.Stepped.{Stepped}
-use Rattle.steps.proofs.Offers.{pass, nothing, keys, Avoids}
+use Rattle.steps.proofs.Offers.{pass, keys, Avoids}
 
 -- the cases of the open blocks
 by-blocks : (P : List Block → Type 0) → P [] → ((a b : ℕ) (bs : List Block) → P (block kinds.Object a b ∷ bs)) → ((a b : ℕ) (bs : List Block) → P (block kinds.Group a b ∷ bs)) → (bs : List Block) → P bs

@@ -11,7 +11,7 @@ use lib.Dec.{eqb, leb}
 use lib.ListN.{length}
 use Rattle.rules.specs.Data as rule
 use Rattle.rules.proofs.Tables.Tests.{and-left, and-right}
-use Rattle.rules.proofs.Tables.RowMachine.{Sort, s-attribute, s-pointer, s-opened, s-closed, s-number, s-other, s-unit-first, s-unit-more, s-sequence, s-sequence-end, s-set, s-set-end, s-last, sort, t-statement, Kinds, to-none, to, chosen, look, after-lines, sort-step}
+use Rattle.rules.proofs.Tables.RowMachine.{Sort, s-attribute, s-pointer, s-opened, s-closed, s-number, s-other, s-unit-first, s-unit-more, s-sequence, s-sequence-end, s-set, s-set-end, s-last, t-statement, Kinds, to-none, to, chosen, look, after-lines, sort-step}
 use Rattle.rows.specs.Rows.{rowsOf}
 use Rattle.rows.specs.declared.Kind.the-variants as kinds
 use Rattle.rows.specs.declared.Kind.{Kind}

@@ -9,7 +9,7 @@ use lib.Dec.{leb}
 use lib.ListN.{length, length-append}
 use Rattle.rules.specs.Data.{Opens, outside}
 use Rattle.rules.specs.Meaning.{Sense}
-use Rattle.rules.specs.Written.{Prior, start, prior, after, writes, writesAll, canonical}
+use Rattle.rules.specs.Written.{Prior, start, prior, after, writes, writesAll}
 use Rattle.rules.proofs.Written.Lines.{leaves, open-after, soFar, row-more, size-more}
 use Rattle.writer.specs.Passing.{passing}
 
