@@ -146,21 +146,29 @@ fn listed() -> Vec<(Vec<u8>, String)> {
         let label = [b"END ".to_vec(), vec![b' '; length - 4]].concat();
         list.push((label, "REFUSED 1 65535\r\n".to_string()));
     }
-    // Tables of 7 + 9 * 7,279 + 2 * 7 + 3 = 65,535 bytes, and of 65,536.
-    let written = "A = (".to_string() + &"1, ".repeat(7_278) + "1)\r\nA = {}\r\nA = {}\r\nEND\r\n";
-    list.push((label_of_table(7_279, 2), written));
-    let label = label_of_table(7_276, 6);
-    let line = format!("REFUSED 11 {}\r\n", label.len());
-    list.push((label, line));
-    // Written labels of 65,535 bytes, and of 65,536.
-    let text = "x".repeat(LONGEST - 13);
-    list.push((
-        label_of_text(text.len()),
-        format!("A = \"{text}\"\r\nEND\r\n"),
-    ));
-    let line = "REFUSED 13 65535\r\n".to_string();
-    list.push((label_of_text(text.len() + 1), line));
+    list.extend(about_as_long_as_may_be());
     list
+}
+
+/// Tables and written labels of 65,535 bytes, and of 65,536.
+fn about_as_long_as_may_be() -> [(Vec<u8>, String); 4] {
+    // 7 + 9 * 7,279 + 2 * 7 + 3 = 65,535 bytes of table.
+    let written = "A = (".to_string() + &"1, ".repeat(7_278) + "1)\r\nA = {}\r\nA = {}\r\nEND\r\n";
+    let over = label_of_table(7_276, 6);
+    let refused = format!("REFUSED 11 {}\r\n", over.len());
+    let text = "x".repeat(LONGEST - 13);
+    [
+        (label_of_table(7_279, 2), written),
+        (over, refused),
+        (
+            label_of_text(text.len()),
+            format!("A = \"{text}\"\r\nEND\r\n"),
+        ),
+        (
+            label_of_text(text.len() + 1),
+            "REFUSED 13 65535\r\n".to_string(),
+        ),
+    ]
 }
 
 #[test]

@@ -30,6 +30,17 @@ fn random_cases_agree_and_reach_every_code() {
     assert_eq!(reached, expected);
 }
 
+/// The name that a row shows, as the label has it.
+fn name_of(row: Row<'_>) -> Option<&str> {
+    let name = match row {
+        Row::Attribute(name) | Row::Pointer(name) => name,
+        Row::Object(name) | Row::Group(name) | Row::Symbol(name) => name,
+        Row::Unit { name, .. } => name,
+        _ => return None,
+    };
+    Some(name.as_written())
+}
+
 #[test]
 fn random_relabelling_agrees_and_rows_decode() {
     let mut random = Random::new(3);
@@ -52,14 +63,7 @@ fn random_relabelling_agrees_and_rows_decode() {
             assert_eq!(entry.offset, end, "{shown}");
             end = entry.next;
             if looked_up {
-                let name = match entry.row {
-                    Row::Attribute(name) | Row::Pointer(name) => Some(name),
-                    Row::Object(name) | Row::Group(name) | Row::Symbol(name) => Some(name),
-                    Row::Unit { name, .. } => Some(name),
-                    _ => None,
-                };
-                let name = name.map(|name| name.as_written());
-                assert_eq!(read.name(entry.offset), name, "{shown}");
+                assert_eq!(read.name(entry.offset), name_of(entry.row), "{shown}");
                 let is_text = matches!(entry.row, Row::Text(_));
                 assert_eq!(read.text(entry.offset).is_ok(), is_text, "{shown}");
             }
