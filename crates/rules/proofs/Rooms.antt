@@ -4,11 +4,11 @@ use native.Mathlib.Omega.{arith}
 use mathlib.Core.Logic.{_⊎_, inl, inr}
 use mathlib.Core.Bool.{Bool, true, false}
 use mathlib.Core.Path.{_≡_, refl}
-use mathlib.Core.List.{List, _++_}
+use mathlib.Core.List.{List}
 use borrow.Author.Tests.{leb-true, leb-false}
 use lib.Dec.{leb}
 use lib.ListN.{length, take, drop}
-use lib.Seq.{take-at, drop-at}
+use lib.Seq.{take-append-seam, drop-append-seam}
 use Rattle.rules.specs.Data.{Row}
 use Rattle.rules.specs.Modes.{Mode}
 use Rattle.rules.specs.Table.{table}
@@ -23,13 +23,6 @@ use Rattle.rules.specs.Asked.{Texted}
 use Rattle.rules.proofs.Reading.Outcomes.{refusal-given}
 use Rattle.rules.proofs.Reading.Reader.{answered-unique}
 use Rattle.rules.proofs.Written.Outcome.{writes-once}
-
--- what is behind a part that stands at a room's start is what was there
-behind : (part room : List ℕ) → drop (length part) (part ++ drop (length part) room) ≡ drop (length part) room
-behind part room = drop-at part (drop (length part) room) (length part) refl
-
-front : (part room : List ℕ) → take (length part) (part ++ drop (length part) room) ≡ part
-front part room = take-at part (drop (length part) room) (length part) refl
 
 -- ---- a reading
 
@@ -46,14 +39,14 @@ module _ {m : Mode} {l room : List ℕ} where
 
   -- and so it is beyond the reported length, whatever the answer
   pub beyond-reading : {s : Said} {r : List ℕ} → Answered m l room s r → drop (s .size) r ≡ drop (s .size) room
-  beyond-reading (stored {rows} a h) = behind (table rows) room
+  beyond-reading (stored {rows} a h) = drop-append-seam (table rows) (drop (length (table rows)) room)
   beyond-reading (no-room a h) = refl
   beyond-reading (not-read a) = refl
 
   -- the table that a reading makes is the one of the rows that the rules give
   pub table-made : {s : Said} {r : List ℕ} → Answered m l room s r → s .code ≡ 0 →
       (rows : List Row) × Reads m l (accepted rows (s .place)) × (take (s .size) r ≡ table rows)
-  table-made (stored {rows} a h) e = (rows, a, front (table rows) room)
+  table-made (stored {rows} a h) e = (rows, a, take-append-seam (table rows) (drop (length (table rows)) room))
   table-made (no-room a h) e = absurd (omega arith)
   table-made (not-read a) e = absurd (omega (arith, refusal-some a))
 
@@ -90,7 +83,7 @@ module _ {label lent room : List ℕ} where
   beyond-writing (writing.no-table h v) = refl
   beyond-writing (writing.long-written h v a) = refl
   beyond-writing (writing.short-room h v a b) = refl
-  beyond-writing (writing.stored {rows} h v a b) = behind (canonical (meaning label rows)) room
+  beyond-writing (writing.stored {rows} h v a b) = drop-append-seam (canonical (meaning label rows)) (drop (length (canonical (meaning label rows))) room)
 
   -- each table that meets the rules becomes a label, if that fits 65,535 bytes and the lent room
   pub becomes-label : {rows : List Row} {s : Said} {r : List ℕ} → length label ≤ longest → lent ≡ table rows → Proper label rows →
@@ -98,7 +91,7 @@ module _ {label lent room : List ℕ} where
       (s .code ≡ 0) × (s .size ≡ length (canonical (meaning label rows))) × (take (s .size) r ≡ canonical (meaning label rows))
   becomes-label {rows} h e p a b w =
       let u = writes-once label lent room w (writing.stored h (is-proper e p) a b) in
-      (rw (u .0) refl, rw (u .0) refl, rw (u .0, u .1) (front (canonical (meaning label rows)) room))
+      (rw (u .0) refl, rw (u .0) refl, rw (u .0, u .1) (take-append-seam (canonical (meaning label rows)) (drop (length (canonical (meaning label rows))) room)))
 
 -- ---- the text of a row
 
@@ -113,4 +106,4 @@ module _ {label lent : List ℕ} {row : ℕ} {room : List ℕ} where
   beyond-text (asked.text-refused h) = refl
   beyond-text (asked.no-text t h) = refl
   beyond-text (asked.short-room t p h) = refl
-  beyond-text (asked.given {p = p} t q h) = behind (reassemble (stretch label p)) room
+  beyond-text (asked.given {p = p} t q h) = drop-append-seam (reassemble (stretch label p)) (drop (length (reassemble (stretch label p))) room)

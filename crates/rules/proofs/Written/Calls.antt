@@ -9,14 +9,14 @@ use Rattle.rules.specs.Data.{Row}
 use Rattle.rules.specs.Table.{table}
 use Rattle.rules.specs.Reading.{longest, accepted, Reads, Said, Answered}
 use Rattle.rules.specs.Reading as Reading
-use Rattle.rules.specs.Proper.{theRules, Proper, proper-rows, improper-at, Ruled, is-proper}
+use Rattle.rules.specs.Proper.{theRules, Proper, proper-rows, Ruled, is-proper}
 use Rattle.rules.specs.Meaning.{meaning}
 use Rattle.rules.specs.Written.{canonical}
 use Rattle.rules.specs.Writing.{Writes, long-label, no-table, long-written, short-room, stored}
 use Rattle.rules.proofs.Tables.Bound.{enough-room}
 use Rattle.rules.proofs.Tables.Judge.{verdict-once}
 use Rattle.rules.proofs.Written.RoundTrip.{reads-back}
-use Rattle.rules.proofs.Written.Outcome.{writes-once}
+use Rattle.rules.proofs.Written.Outcome.{same-rows, not-both, writes-once}
 
 -- ---- what a writing left in the room is read back
 
@@ -63,12 +63,6 @@ pub left-fits : {label lent after : List ℕ} {n : ℕ} (b : LeftInRoom label le
 left-fits {after = after} {n = n} b room h = enough-room (take n after) room h (b .reads)
 
 -- ---- equal meaning
-
-same-rows : {rs qs : List Row} → proper-rows rs ≡ proper-rows qs → rs ≡ qs
-same-rows e = cc
-
-not-both : {rs : List Row} {i : ℕ} → proper-rows rs ≡ improper-at i → ⊥
-not-both e = let z : _≡_ {A = ℕ} 0 1 = cc in omega arith
 
 module _ {label lent label′ lent′ : List ℕ} {rows rows′ : List Row} (short : length label ≤ longest) (short′ : length label′ ≤ longest)
     (proper : Ruled label lent (proper-rows rows)) (proper′ : Ruled label′ lent′ (proper-rows rows′)) (alike : meaning label rows ≡ meaning label′ rows′) where

@@ -34,13 +34,13 @@ writtenOf label lent room =
     (onVerdict (judgeTable label lent) (λ at. (says 12 at 0, room)) (λ rows. writtenInto room (canonical (meaning label rows))))
     (says 1 longest 0, room)
 
-same-rows : {rs qs : List Row} → proper-rows rs ≡ proper-rows qs → rs ≡ qs
+pub same-rows : {rs qs : List Row} → proper-rows rs ≡ proper-rows qs → rs ≡ qs
 same-rows e = cc
 
 same-place : {i j : ℕ} → improper-at i ≡ improper-at j → i ≡ j
 same-place e = cc
 
-not-both : {rs : List Row} {i : ℕ} → proper-rows rs ≡ improper-at i → ⊥
+pub not-both : {rs : List Row} {i : ℕ} → proper-rows rs ≡ improper-at i → ⊥
 not-both e = let z : _≡_ {A = ℕ} 0 1 = cc in omega arith
 
 module _ (label lent room : List ℕ) where
