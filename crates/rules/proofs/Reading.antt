@@ -1,5 +1,6 @@
 -- The reading of a label: a function from bytes to the outcome, equal to the rules both ways; the checked examples; bytes beyond END; other modes;
--- where each row comes from; the first fault, said of labels; and that a label follows the rules in exactly one way or not at all.
+-- where each row comes from; the first fault, said of labels; that a label follows the rules in exactly one way or not at all; and that layout means
+-- nothing.
 pub mod Reader
 pub mod Examples
 pub mod Outcomes
@@ -15,3 +16,10 @@ pub mod Completion
 pub mod Stays
 pub mod Beyond
 pub mod FirstFault
+pub mod StepTwice
+pub mod ElementTwice
+pub mod SameElements
+pub mod Listing
+pub mod ListedOnce
+pub mod AlikeOnce
+pub mod RelaidExample

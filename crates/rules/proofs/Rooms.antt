@@ -26,7 +26,8 @@ use Rattle.rules.proofs.Written.Outcome.{writes-once}
 
 -- ---- a reading
 
-refusal-some : {m : Mode} {l : List ℕ} {c i : ℕ} → Reads m l (refused c i) → 1 ≤ c
+-- a refusal's code is not 0
+pub refusal-some : {m : Mode} {l : List ℕ} {c i : ℕ} → Reads m l (refused c i) → 1 ≤ c
 refusal-some (too-long h) = omega arith
 refusal-some {m} (read h j) = omega (arith, refusal-given m j .0 .from)
 

@@ -21,3 +21,4 @@ pub mod Outcome
 pub mod Calls
 pub mod CallExamples
 mod Examples
+pub mod SameMeaning

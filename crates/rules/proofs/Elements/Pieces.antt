@@ -148,7 +148,7 @@ breaks c (b ∷ r) = go (c b) refl
     go false h = foreign h
 
 -- one byte at least
-sized-kept : (n : ℕ) → leb (suc n) 255 ≡ true → between 1 255 (suc n) ≡ true
+pub sized-kept : (n : ℕ) → leb (suc n) 255 ≡ true → between 1 255 (suc n) ≡ true
 sized-kept n h = rw (le-leb 1 (suc n) (omega arith), h)
 
 sized-least : (n : ℕ) → between 1 255 (suc n) ≡ true → leb (suc n) 255 ≡ true

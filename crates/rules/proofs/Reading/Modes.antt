@@ -44,7 +44,7 @@ module _ (m : Mode) where
   ends-offered alone o p = ends-after (m .pvl) o p
   ends-offered (member-of g) o p = ends-members (m .members-beside) g o p
 
-  ends-offers : (q : State) (o : Opens) (p : Span) → Refusal (step m strict q o (end false on p))
+  pub ends-offers : (q : State) (o : Opens) (p : Span) → Refusal (step m strict q o (end false on p))
   ends-offers at-statement o p = ends-statements (m .pvl) o p
   ends-offers at-semicolon o p = ends-after (m .pvl) o p
   ends-offers at-equals o p = (6, refl)

@@ -30,19 +30,19 @@ pub record Stands (m : Mode) (l : List ℕ) (e : Elem) (p : Span) : Type 0 where
   pub content : Holds m e (stretch l p)
 
 -- an element's bytes without its quotes
-record Bare (m : Mode) (w : List ℕ) (e : Elem) (q : ℕ) : Type 0 where
-  before : List ℕ
-  bytes : List ℕ
-  behind : List ℕ
-  is : w ≡ before ++ (bytes ++ behind)
-  before-size : length before ≡ q
-  behind-size : length behind ≡ q
-  content : Holds m e bytes
+pub record Bare (m : Mode) (w : List ℕ) (e : Elem) (q : ℕ) : Type 0 where
+  pub before : List ℕ
+  pub bytes : List ℕ
+  pub behind : List ℕ
+  pub is : w ≡ before ++ (bytes ++ behind)
+  pub before-size : length before ≡ q
+  pub behind-size : length behind ≡ q
+  pub content : Holds m e bytes
 
 unquoted : {m : Mode} {w : List ℕ} {e : Elem} → Holds m e w → Bare m w e 0
 unquoted {w = w} h = record { before = []; bytes = w; behind = []; is = sym (append-nil w); before-size = refl; behind-size = refl; content = h }
 
-bare : {m : Mode} {w r : List ℕ} {e : Elem} {q : ℕ} → Spells m w e q r → Bare m w e q
+pub bare : {m : Mode} {w r : List ℕ} {e : Elem} {q : ℕ} → Spells m w e q r → Bare m w e q
 bare (word t f) = unquoted (holds-word f)
 bare (sign h) = unquoted holds-sign
 bare (one-star h) = unquoted holds-sign
@@ -57,23 +57,28 @@ part : (a b c : List ℕ) (from upto : ℕ) → length a ≡ from → upto - fro
 part a b c from upto h k = rw (drop-at a (b ++ c) from h, k) (take-at b c (length b) refl)
 
 module _ (m : Mode) where
-  stands : (a g w l : List ℕ) (e : Elem) (q i : ℕ) → i ≡ length a → Bare m w e q →
-      Stands m (a ++ (g ++ (w ++ l))) e (record { from = i + length g + q; upto = i + length g + length w - q })
-  stands a g w l e q i h b =
-      let s : length w ≡ length (b .before) + (length (b .bytes) + length (b .behind)) =
-      ap length (b .is) ∙ length-append (b .before) (b .bytes ++ b .behind) ∙ ap (λ (n : ℕ). length (b .before) + n) (length-append (b .bytes) (b .behind)) in
+  bare-size : (w : List ℕ) (e : Elem) (q : ℕ) (b : Bare m w e q) → length w ≡ length (b .before) + (length (b .bytes) + length (b .behind))
+  bare-size w e q b = ap length (b .is) ∙ length-append (b .before) (b .bytes ++ b .behind) ∙ ap (λ (n : ℕ). length (b .before) + n) (length-append (b .bytes) (b .behind))
+
+  -- an element's span holds its bytes without its quotes
+  pub stretch-is : (a g w l : List ℕ) (e : Elem) (q i : ℕ) → i ≡ length a → (b : Bare m w e q) →
+      stretch (a ++ (g ++ (w ++ l))) (record { from = i + length g + q; upto = i + length g + length w - q }) ≡ b .bytes
+  stretch-is a g w l e q i h b =
       let z : a ++ (g ++ (w ++ l)) ≡ (a ++ (g ++ b .before)) ++ (b .bytes ++ (b .behind ++ l)) =
       ap (λ (t : List ℕ). a ++ (g ++ (t ++ l))) (b .is) ∙ simp append-assoc in
       let f : length (a ++ (g ++ b .before)) ≡ i + length g + q =
       length-append a (g ++ b .before) ∙ (let n = length-append g (b .before) in let o = b .before-size in omega arith) in
-      let k : i + length g + length w - q - (i + length g + q) ≡ length (b .bytes) = omega (arith, b .before-size, b .behind-size) in
-      let t : stretch (a ++ (g ++ (w ++ l))) (record { from = i + length g + q; upto = i + length g + length w - q }) ≡ b .bytes =
+      let k : i + length g + length w - q - (i + length g + q) ≡ length (b .bytes) = omega (arith, b .before-size, b .behind-size, bare-size w e q b) in
       ap (λ (y : List ℕ). take (i + length g + length w - q - (i + length g + q)) (drop (i + length g + q) y)) z
-      ∙ part (a ++ (g ++ b .before)) (b .bytes) (b .behind ++ l) (i + length g + q) (i + length g + length w - q) f k in
+      ∙ part (a ++ (g ++ b .before)) (b .bytes) (b .behind ++ l) (i + length g + q) (i + length g + length w - q) f k
+
+  stands : (a g w l : List ℕ) (e : Elem) (q i : ℕ) → i ≡ length a → Bare m w e q →
+      Stands m (a ++ (g ++ (w ++ l))) e (record { from = i + length g + q; upto = i + length g + length w - q })
+  stands a g w l e q i h b =
       record {
-        order = omega (arith, b .before-size, b .behind-size);
+        order = omega (arith, b .before-size, b .behind-size, bare-size w e q b);
         inside = omega (arith, length-append a (g ++ (w ++ l)), length-append g (w ++ l), length-append w l);
-        content = subst (Holds m e) (sym t) (b .content);
+        content = subst (Holds m e) (sym (stretch-is a g w l e q i h b)) (b .content);
       }
 
   cut-stands : (a : List ℕ) {i j : ℕ} {l r : List ℕ} {es : List Placed} → i ≡ length a → Cut m i l es j r → Every (Stands m (a ++ l)) es

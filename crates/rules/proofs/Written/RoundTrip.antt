@@ -44,7 +44,7 @@ judged-back given rows p =
     let m = meaning given rows in
     accepted-back m (clean-meaning given rows (a .spans)) (alike-values rows m (sym (aside-meaning given rows)) (a .values)) (alike-run rows m (sym (aside-meaning given rows)) (a .run))
 
-accepted-same : {rows rows′ : List Row} {i j : ℕ} → accepted rows i ≡ accepted rows′ j → rows ≡ rows′
+pub accepted-same : {rows rows′ : List Row} {i j : ℕ} → accepted rows i ≡ accepted rows′ j → rows ≡ rows′
 accepted-same e = cc
 
 module _ (given : List ℕ) (rows : List Row) (p : Proper given rows) where

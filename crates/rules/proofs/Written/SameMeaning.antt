@@ -1,0 +1,102 @@
+-- Whether two labels mean the same is told by writing both: the bytes are equal exactly when the meanings are.
+use Prim.Native.Nat.{ℕ, _≤_}
+use native.Mathlib.Omega.{arith}
+use mathlib.Core.Logic.{_↔_}
+use mathlib.Core.Path.{_≡_, refl, sym, ap, ap₂, subst, _∙_}
+use mathlib.Core.List.{List}
+use lib.ListN.{length, take, drop}
+use lib.Seq.{take-append-seam}
+use Rattle.rules.specs.Data.{Row}
+use Rattle.rules.specs.Modes.{Mode}
+use Rattle.rules.specs.Table.{table}
+use Rattle.rules.specs.Reading.{longest, Outcome, accepted, refused, Judged, Reads, read, Said, Answered}
+use Rattle.rules.specs.Proper.{theRules, Proper, proper-rows, Ruled, is-proper}
+use Rattle.rules.specs.Meaning.{meaning}
+use Rattle.rules.specs.Writing.{labelOf, Writes, long-label, no-table, long-written, short-room, stored}
+use Rattle.rules.specs.SameElements.{SameElements, AlikeRead, both-accepted, both-refused, both-at-the-end}
+use Rattle.rules.proofs.Reading.Reader.{judge-complete, reading-unique}
+use Rattle.rules.proofs.Reading.SameElements.{alike-read}
+use Rattle.rules.proofs.Rooms.{table-made}
+use Rattle.rules.proofs.Tables.Judge.{verdict-once}
+use Rattle.rules.proofs.Tables.OwnTable.{read-proper, read-ruled}
+use Rattle.rules.proofs.Written.Calls.{equal-writings}
+use Rattle.rules.proofs.Written.Outcome.{same-rows}
+use Rattle.rules.proofs.Written.RoundTrip.{accepted-same, judged-back, equal-bytes}
+
+-- ---- of tables
+
+-- tables whose written labels are equal have equal meaning
+pub equal-meaning : (given given′ : List ℕ) (rows rows′ : List Row) → Proper given rows → Proper given′ rows′ → labelOf given rows ≡ labelOf given′ rows′ → meaning given rows ≡ meaning given′ rows′
+equal-meaning given given′ rows rows′ p p′ e =
+    let b = judged-back given rows p in
+    let b′ = judged-back given′ rows′ p′ in
+    let j : Judged theRules (labelOf given′ rows′) (accepted (b .rows) (b .past)) = subst (λ (l : List ℕ). Judged theRules l (accepted (b .rows) (b .past))) e (b .judged) in
+    let r : b .rows ≡ b′ .rows = accepted-same (sym (judge-complete theRules j) ∙ judge-complete theRules (b′ .judged)) in
+    sym (b .means) ∙ ap₂ meaning e r ∙ b′ .means
+
+-- ---- of calls
+
+-- The bytes that came of a label which was read, and whose table was written, with code 0 both times, into rooms of any length.
+pub record Rewritten (m : Mode) (l bytes : List ℕ) : Type 0 where
+  pub room : List ℕ
+  pub after : List ℕ
+  pub said : Said
+  pub reads : Answered m l room said after
+  pub was-read : said .code ≡ 0
+  pub out : List ℕ
+  pub done : List ℕ
+  pub wrote : Said
+  pub writes : Writes l (take (said .size) after) out wrote done
+  pub was-written : wrote .code ≡ 0
+  pub are : bytes ≡ take (wrote .size) done
+
+-- a writing of the reader's own table leaves its label
+left-label : {l lent out done : List ℕ} {s : Said} {rows : List Row} → length l ≤ longest → Ruled l lent (proper-rows rows) → Writes l lent out s done → s .code ≡ 0 →
+    take (s .size) done ≡ labelOf l rows
+left-label short p (long-label h) z = absurd (omega arith)
+left-label short p (no-table h v) z = absurd (omega arith)
+left-label short p (long-written h v a) z = absurd (omega arith)
+left-label short p (short-room h v a b) z = absurd (omega arith)
+left-label {l} {lent} {out} short p (stored {rows = qs} h v a b) z =
+    take-append-seam (labelOf l qs) (drop (length (labelOf l qs)) out) ∙ ap (labelOf l) (same-rows (verdict-once l short lent v p))
+
+accepted-short : {m : Mode} {l : List ℕ} {rows : List Row} {i : ℕ} → Reads m l (accepted rows i) → length l ≤ longest
+accepted-short (read h j) = h
+
+rewritten-label : {m : Mode} {l bytes : List ℕ} {rows : List Row} {i : ℕ} → Rewritten m l bytes → Reads m l (accepted rows i) → bytes ≡ labelOf l rows
+rewritten-label {m} {l} {bytes} {rows} w r =
+    let t = table-made (w .reads) (w .was-read) in
+    let e : t .0 ≡ rows = accepted-same (reading-unique m (t .1) r) in
+    let p : Ruled l (take (w .said .size) (w .after)) (proper-rows rows) = is-proper (t .2 ∙ ap table e) (read-proper m l r) in
+    w .are ∙ left-label (accepted-short r) p (w .writes) (w .was-written)
+
+-- Did the data change? The bytes are equal exactly when the meanings are.
+pub same-meaning : {m m′ : Mode} {l l′ bytes bytes′ : List ℕ} {rows rows′ : List Row} {i i′ : ℕ} → Rewritten m l bytes → Rewritten m′ l′ bytes′ →
+    Reads m l (accepted rows i) → Reads m′ l′ (accepted rows′ i′) → (bytes ≡ bytes′) ↔ (meaning l rows ≡ meaning l′ rows′)
+same-meaning {m} {m′} {l} {l′} {rows = rows} {rows′ = rows′} w w′ r r′ =
+    let a = rewritten-label w r in
+    let b = rewritten-label w′ r′ in (
+      λ e. equal-meaning l l′ rows rows′ (read-proper m l r) (read-proper m′ l′ r′) (sym a ∙ e ∙ b),
+      λ e. a ∙ equal-bytes l l′ rows rows′ e ∙ sym b,
+    )
+
+-- ---- of labels that differ in layout alone
+
+refused-accepted : {c p i : ℕ} {rows : List Row} → refused c p ≡ accepted rows i → ⊥
+refused-accepted e = let z : _≡_ {A = ℕ} 0 1 = cc in omega arith
+
+-- labels with the same elements mean the same, if they are accepted
+pub relaid-means : {m : Mode} {l l′ ps ps′ : List ℕ} {rows rows′ : List Row} {i i′ : ℕ} → SameElements m l l′ ps ps′ → Reads m l (accepted rows i) → Reads m l′ (accepted rows′ i′) →
+    meaning l rows ≡ meaning l′ rows′
+relaid-means {m} {l} {l′} {ps} {ps′} a r r′ = go (alike-read m l l′ a (accepted-short r) (accepted-short r′) r r′) refl refl
+  where
+    go : {z z′ : Outcome} {rows rows′ : List Row} {i i′ : ℕ} → AlikeRead l l′ ps ps′ z z′ → z ≡ accepted rows i → z′ ≡ accepted rows′ i′ → meaning l rows ≡ meaning l′ rows′
+    go (both-accepted x y s) e e′ = ap (meaning l) (sym (accepted-same e)) ∙ x ∙ ap (meaning l′) (accepted-same e′)
+    go (both-refused s) e e′ = absurd (refused-accepted e)
+    go both-at-the-end e e′ = absurd (refused-accepted e)
+
+-- and are written alike: the same answer, and equal rooms
+pub relaid-written : {m : Mode} {l l′ ps ps′ : List ℕ} {rows rows′ : List Row} {i i′ : ℕ} {out done done′ : List ℕ} {s s′ : Said} → SameElements m l l′ ps ps′ →
+    Reads m l (accepted rows i) → Reads m l′ (accepted rows′ i′) → Writes l (table rows) out s done → Writes l′ (table rows′) out s′ done′ → (s ≡ s′) × (done ≡ done′)
+relaid-written {m} {l} {l′} a r r′ w w′ =
+    equal-writings (accepted-short r) (accepted-short r′) (read-ruled m l r) (read-ruled m l′ r′) (relaid-means a r r′) w w′

@@ -1,0 +1,89 @@
+-- Layout means nothing (document 02, 14): two labels with the same list of elements, byte for byte; and that they are read alike.
+use Prim.Native.Nat.{ℕ, _+_, _≤_, _<_}
+use Prim.Native.Char.{code as byte}
+use mathlib.Core.Bool.{Bool, true, false}
+use mathlib.Core.Path.{_≡_}
+use mathlib.Core.List.{List, [], _∷_, _++_}
+use lib.ListN.{length}
+use Rattle.rules.specs.Bytes.{ascii, Run}
+use Rattle.rules.specs.Data.{Elem, Row}
+use Rattle.rules.specs.Modes.{Mode}
+use Rattle.rules.specs.Values.{same}
+use Rattle.rules.specs.Elements.{Gap, inSymbol, inWord, setsOff, Spells}
+use Rattle.rules.specs.Table.{table}
+use Rattle.rules.specs.Reading.{Outcome, accepted, refused, Reads, Said, says}
+use Rattle.rules.specs.Meaning.{foldAll, meaning}
+
+-- ---- the list of elements
+
+-- Elements byte for byte: the bytes `w`, with `r` behind them, are one element, whether or not it has a form and keeps its limit. Bytes of
+-- no element, and a text or symbol that is broken or left open, are none: they are faults outside the elements.
+pub data OneElement (m : Mode) : List ℕ → List ℕ → Type 0 where
+  -- an element as the rules spell it
+  spelled : {w r : List ℕ} {e : Elem} {q : ℕ} → Spells m w e q r → OneElement m w r
+  -- a word of any form or none
+  any-word : {b : ℕ} {w r : List ℕ} → Run inWord (b ∷ w) r → OneElement m (b ∷ w) r
+  -- a quoted symbol of any length
+  any-symbol : {t r : List ℕ} → Run inSymbol t (byte "'" ∷ r) → OneElement m (byte "'" ∷ (t ++ byte "'" ∷ [])) r
+
+-- the word END, in either case
+abbrev pub isEND : List ℕ → Bool
+isEND w = same (foldAll w) (ascii "END")
+
+-- through the first END, which is set off or not; or to the input's end, END lacking
+pub data Through : Type 0 where
+  first-END : Bool → Through
+  no-END : Through
+
+-- The input from an offset has these elements, byte for byte, which start at these places, through the first END or to the input's end; and
+-- what stands before, between and after its elements, up to that END or the input's end, holds no fault: it is spacing, line ends and
+-- comments. What stands behind that END counts only for whether it is set off.
+pub data Listed (m : Mode) : ℕ → List ℕ → List (List ℕ) → List ℕ → Through → Type 0 where
+  to-the-end : {i : ℕ} {g : List ℕ} → Gap m g [] → Listed m i g [] [] no-END
+  through-END : {i : ℕ} {g w r : List ℕ} {off : Bool} → Gap m g (w ++ r) → OneElement m w r → isEND w ≡ true → setsOff m r ≡ off →
+      Listed m i (g ++ (w ++ r)) (w ∷ []) ((i + length g) ∷ []) (first-END off)
+  and-then : {i : ℕ} {g w l : List ℕ} {ws : List (List ℕ)} {ps : List ℕ} {t : Through} → Gap m g (w ++ l) → OneElement m w l →
+      isEND w ≡ false → Listed m (i + length g + length w) l ws ps t →
+      Listed m i (g ++ (w ++ l)) (w ∷ ws) ((i + length g) ∷ ps) t
+
+-- Two labels with the same list of elements, byte for byte, through the first END or to the input's end, and END set off in both or lacking
+-- in both, or in both not set off. The elements start at these places in the one, and at those in the other.
+pub record SameElements (m : Mode) (l l′ : List ℕ) (ps ps′ : List ℕ) : Type 0 where
+  pub elements : List (List ℕ)
+  pub through : Through
+  pub one : Listed m 0 l elements ps through
+  pub other : Listed m 0 l′ elements ps′ through
+
+-- ---- read alike
+
+-- at the same element in both: equally far down the places
+pub data SamePlace : List ℕ → List ℕ → ℕ → ℕ → Type 0 where
+  the-first : {p p′ : ℕ} {ps ps′ : List ℕ} → SamePlace (p ∷ ps) (p′ ∷ ps′) p p′
+  further : {a a′ p p′ : ℕ} {ps ps′ : List ℕ} → SamePlace ps ps′ p p′ → SamePlace (a ∷ ps) (a′ ∷ ps′) p p′
+
+-- are both accepted or both refused. The outcomes of two labels whose elements start at these places:
+pub data AlikeRead (l l′ ps ps′ : List ℕ) : Outcome → Outcome → Type 0 where
+  -- If accepted, the tables have equal meaning and equal length; each place is the one past the three bytes of the same END.
+  both-accepted : {rows rows′ : List Row} {p p′ : ℕ} → meaning l rows ≡ meaning l′ rows′ → length (table rows) ≡ length (table rows′) →
+      SamePlace ps ps′ p p′ → AlikeRead l l′ ps ps′ (accepted rows (p + 3)) (accepted rows′ (p′ + 3))
+  -- If refused, it is with the same code, at the same element
+  both-refused : {c p p′ : ℕ} → SamePlace ps ps′ p p′ → AlikeRead l l′ ps ps′ (refused c p) (refused c p′)
+  -- or at the input's end in both.
+  both-at-the-end : {c : ℕ} → AlikeRead l l′ ps ps′ (refused c (length l)) (refused c (length l′))
+
+-- ---- of the calls
+
+-- its table room is ample: it holds the table, if there is one
+abbrev pub Ample : Mode → List ℕ → List ℕ → Type 0
+Ample m l room = (rows : List Row) (i : ℕ) → Reads m l (accepted rows i) → length (table rows) ≤ length room
+
+-- What two calls say, and what their rooms hold then; the same of calls as of outcomes.
+pub data AlikeSaid (l l′ ps ps′ : List ℕ) : Said → List ℕ → Said → List ℕ → Type 0 where
+  both-stored : (rows rows′ : List Row) (rest rest′ : List ℕ) {p p′ : ℕ} → meaning l rows ≡ meaning l′ rows′ →
+      length (table rows) ≡ length (table rows′) → SamePlace ps ps′ p p′ →
+      AlikeSaid l l′ ps ps′ (says 0 (p + 3) (length (table rows))) (table rows ++ rest)
+      (says 0 (p′ + 3) (length (table rows′))) (table rows′ ++ rest′)
+  both-not-read : {c p p′ : ℕ} {room room′ : List ℕ} → 0 < c → SamePlace ps ps′ p p′ →
+      AlikeSaid l l′ ps ps′ (says c p 0) room (says c p′ 0) room′
+  both-ended : {c : ℕ} {room room′ : List ℕ} → 0 < c →
+      AlikeSaid l l′ ps ps′ (says c (length l) 0) room (says c (length l′) 0) room′
