@@ -20,8 +20,10 @@
     sequence                list, of lists where it has rows
     set                     Set, a tuple in the written order
 
-`relabel` gives the canonical label. Both raise `OdlError` with code, place and
-reason for a label that is refused; nothing is guessed.
+`relabel` gives the canonical label, and `same` tells whether two labels mean
+the same, whatever their layout. All raise `OdlError` with code, place and reason
+for a label that is refused, `same` also with which of the two it is; nothing is
+guessed.
 
 The library is `target/libodl.so` at the project's root, made by the script
 `build` beside this file, or the file that ODL_LIBRARY names.
@@ -46,6 +48,7 @@ __all__ = [
     "Unit",
     "read",
     "relabel",
+    "same",
 ]
 
 LONGEST_LABEL = 65535
@@ -70,16 +73,19 @@ REASONS = {
 
 
 class OdlError(ValueError):
-    """A label was refused: `code`, `place` in the label, and `reason`."""
+    """A label was refused: `code`, `place` in the label, and `reason`. Where two
+    labels were given, `label` is "first" or "second", else None."""
 
     def __init__(self, code: int, place: int):
         super().__init__(code, place)
         self.code = code
         self.place = place
         self.reason = REASONS[code]
+        self.label: Optional[str] = None
 
     def __str__(self):
-        return f"code {self.code} at {self.place}: {self.reason}"
+        of_label = f" of the {self.label} label" if self.label else ""
+        return f"code {self.code} at {self.place}{of_label}: {self.reason}"
 
 
 class Symbol(str):
@@ -156,21 +162,23 @@ class Block:
 def read(data: bytes) -> list:
     """The statements of a label."""
     data = bytes(memoryview(data))
-    table = _grown(
-        min(len(data), LONGEST_LABEL), lambda *room: _library.odl_read(data, len(data), *room)
-    )
-    return _Table(data, table).statements()
+    return _Table(data, _table(data)).statements()
 
 
 def relabel(data: bytes) -> bytes:
     """The canonical label; refused just as the program `relabel` refuses it,
     which has room for a table of 65,535 bytes."""
     data = bytes(memoryview(data))
-    table = _filled(LONGEST_LABEL, lambda *room: _library.odl_read(data, len(data), *room))
-    return _grown(
-        len(data),
-        lambda *room: _library.odl_write(data, len(data), table, len(table), *room),
-    )
+    return _written(data, _filled(LONGEST_LABEL, _reading(data)))
+
+
+def same(a: bytes, b: bytes) -> bool:
+    """Whether two labels mean the same: their canonical labels are equal exactly
+    when their meanings are. Raises for a label that is refused, or whose
+    canonical label would be over 65,535 bytes; the first is judged before the
+    second. Unlike `relabel`, this has all the room that a table needs."""
+    first = _canonical(a, "first")
+    return first == _canonical(b, "second")
 
 
 def _load():
@@ -221,6 +229,32 @@ def _grown(size, call):
     if code == 0:
         return room.raw[:length]
     return _filled(length, call)
+
+
+def _reading(data):
+    """The call that reads a label."""
+    return lambda *room: _library.odl_read(data, len(data), *room)
+
+
+def _table(data):
+    return _grown(min(len(data), LONGEST_LABEL), _reading(data))
+
+
+def _written(data, table):
+    return _grown(
+        len(data),
+        lambda *room: _library.odl_write(data, len(data), table, len(table), *room),
+    )
+
+
+def _canonical(data, label):
+    """The canonical label of the "first" or the "second" label."""
+    data = bytes(memoryview(data))
+    try:
+        return _written(data, _table(data))
+    except OdlError as error:
+        error.label = label
+        raise
 
 
 def _text(written):

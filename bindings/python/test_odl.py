@@ -202,6 +202,7 @@ class Refusing(unittest.TestCase):
         error = self.refused(b"END;", 9, 0)
         self.assertEqual(error.reason, "END without spacing or a line end after it")
         self.assertEqual(str(error), "code 9 at 0: END without spacing or a line end after it")
+        self.assertIsNone(error.label)
         self.assertIsInstance(error, ValueError)
 
     def test_table_too_long_for_relabel(self):
@@ -224,6 +225,133 @@ class Relabelling(unittest.TestCase):
         written = odl.relabel(label)
         self.assertEqual(odl.read(written), odl.read(label))
         self.assertEqual(odl.relabel(written), written)
+
+
+class Comparing(unittest.TestCase):
+    def answers(self, pairs, expected):
+        for one, other in pairs:
+            with self.subTest(one=one, other=other):
+                self.assertIs(odl.same(one, other), expected)
+                self.assertIs(odl.same(other, one), expected)
+
+    def values(self, pairs, expected):
+        labels = [(b"A=" + one + b" END", b"A=" + other + b" END") for one, other in pairs]
+        self.answers(labels, expected)
+
+    def refused(self, one, other, label, code, place):
+        with self.assertRaises(odl.OdlError) as caught:
+            odl.same(one, other)
+        error = caught.exception
+        self.assertEqual((error.label, error.code, error.place), (label, code, place))
+        return error
+
+    def test_layout_has_no_meaning(self):
+        plain = b'OBJECT=CAM A=(1,2) F={} N="a  b" END_OBJECT=CAM END'
+        relaid = (
+            b"/* a remark */ END\r\nOBJECT\t= CAM\r\n\n  A = ( 1 ,\x0c 2 /* of 2 */\n )\r\n"
+            b'  F = { /* none */ }\x0b }\r\n  N\n=\n"a  b"\r\nEND_OBJECT = CAM\r\n'
+            b'END\r\nand frames \xff"'
+        )
+        self.answers([(plain, relaid), (CAMERA, CANONICAL), (b"END", b" END &")], True)
+
+    def test_case_and_closing_names_have_no_meaning(self):
+        folded = b"GROUP=RIG A=IO B='NEAR-IR' C=1<KM> END_GROUP=RIG END"
+        mixed = b"group=Rig a='io' b='near-IR' c=1<km> End_Group end"
+        self.answers([(folded, mixed)], True)
+
+    def test_spelling_has_no_meaning(self):
+        pairs = [
+            (b"16#-4B#", b"-75"),
+            (b"+0099", b"99"),
+            (b"1.50", b"15.E-1"),
+            (b"0E5000", b"-0.0"),
+            (b"1990-158", b"1990-06-07"),
+            (b"10:00", b"10:00:00.000Z"),
+            (b"-2 <DEG/SEC**1>", b"-2<deg/sec>"),
+            (b'"Jupi-\n  ter\r\n\tring"', b'"Jupiter ring"'),
+        ]
+        self.values(pairs, True)
+
+    def test_other_values_have_another_meaning(self):
+        pairs = [
+            (b"1", b"2"),
+            (b"1", b"1."),
+            (b"1 <M>", b"1 <S>"),
+            (b"{1, 2}", b"{2, 1}"),
+            (b"{1}", b"(1)"),
+            (b"'A'", b'"A"'),
+            (b'"io"', b'"IO"'),
+            (b'"Jupi-\nter"', b'"Jupi- \nter"'),
+            (b"1990-07", b"1990-07-01"),
+            (b"10:00+01", b"09:00Z"),
+        ]
+        self.values(pairs, False)
+
+    def test_other_statements_have_another_meaning(self):
+        pairs = [
+            (b"A=1 END", b"B=1 END"),
+            (b"A=1 END", b"^A=1 END"),
+            (b"A=1 B=1 END", b"B=1 A=1 END"),
+            (b"OBJECT=X END_OBJECT END", b"GROUP=X END_GROUP END"),
+            (b"END", b"A=1 END"),
+        ]
+        self.answers(pairs, False)
+
+    def test_a_refused_label_is_named(self):
+        for label, code, place in [
+            (b"END".ljust(65536), 1, 65535),
+            (b"A=& END", 2, 2),
+            (b"A=1 /*/ END", 3, 4),
+            (b"A='' END", 4, 2),
+            (b"A=1990-366 END", 5, 2),
+            (b"A=() END", 6, 3),
+            (b"OBJECT=X END_OBJECT=Y END", 7, 20),
+            (b"OBJECT=X " * 81 + b"END", 8, 9 * 80),
+            (b"END;", 9, 0),
+            (b"", 10, 0),
+        ]:
+            with self.subTest(code=code):
+                self.refused(label, b"END", "first", code, place)
+                self.refused(b"END", label, "second", code, place)
+                # The same bytes twice are refused too.
+                self.refused(label, label, "first", code, place)
+
+    def test_the_first_is_judged_whole_before_the_second(self):
+        long = b'A="' + b"x" * 65523 + b'" END'
+        self.refused(b"END;", b"A=() END", "first", 9, 0)
+        self.refused(b"A=() END", b"END;", "first", 6, 3)
+        self.refused(long, b"END;", "first", 13, 65535)
+
+    def test_canonical_label_over_the_limit(self):
+        # `A = "xx..x"`, `END` and their line ends: 13 bytes more than the text.
+        longest, over = (b'A="' + b"x" * length + b'" END' for length in (65522, 65523))
+        self.answers([(longest, longest)], True)
+        self.answers([(longest, b"END")], False)
+        self.refused(over, b"END", "first", 13, 65535)
+        self.refused(b"END", over, "second", 13, 65535)
+        self.refused(over, over, "first", 13, 65535)
+
+    def test_a_long_table_is_no_hindrance(self):
+        # 7 + 9 * 7,281 + 3 = 65,539 bytes of table.
+        label = b"A=(" + b"1," * 7280 + b"1) END"
+        with self.assertRaises(odl.OdlError) as caught:
+            odl.relabel(label)
+        self.assertEqual((caught.exception.code, caught.exception.label), (11, None))
+        self.answers([(label, label.replace(b",", b", "))], True)
+        self.answers([(label, label.replace(b"1)", b"2)"))], False)
+
+    def test_messages(self):
+        reason = "END without spacing or a line end after it"
+        first = self.refused(b"END;", b"END", "first", 9, 0)
+        self.assertEqual(str(first), f"code 9 at 0 of the first label: {reason}")
+        second = self.refused(b"END", b"END;", "second", 9, 0)
+        self.assertEqual(str(second), f"code 9 at 0 of the second label: {reason}")
+
+    def test_other_buffers(self):
+        self.answers([(bytearray(b"A=1 END"), memoryview(b"a=1 end"))], True)
+        for one, other in [("END", b"END"), (b"END", "END")]:
+            with self.assertRaises(TypeError):
+                odl.same(one, other)
 
 
 class Listed(unittest.TestCase):
