@@ -10,6 +10,7 @@ use Rattle.rules.specs.Grammar.{Strictness, strict, Factor, factor, Fact
 use Rattle.rules.specs.Modes.{Mode, base}
 use Rattle.rules.specs.Table.{table}
 use Rattle.rules.specs.Reading.{accepted, Judged, follows, Reads, read}
+use Rattle.rules.specs.SameElements.{Ample}
 use Rattle.rules.proofs.Reading.Reader.{cut-length}
 use Rattle.rules.proofs.Tables.Walk.{table-append}
 use Rattle.rules.proofs.Tables.Widths.{widths, widths-append, cut-widths}
@@ -124,3 +125,7 @@ label-bound j = mode-label-bound base refl j
 -- room of five times the label's length is enough for its table
 pub enough-room : (l room : List ℕ) {rows : List Row} {i : ℕ} → 5 * length l ≤ length room → Reads base l (accepted rows i) → length (table rows) ≤ length room
 enough-room l room h (read k j) = omega (arith, label-bound j)
+
+-- and so ample, as layout asks for it
+pub ample-room : (l room : List ℕ) → 5 * length l ≤ length room → Ample base l room
+ample-room l room h rows i r = enough-room l room h r
