@@ -1,4 +1,8 @@
--- Layout means nothing (document 02, 14): two labels with the same list of elements, byte for byte; and that they are read alike.
+-- Layout means nothing (document 02, 14): two labels with the same list of elements, byte for byte, through the first END or to the input's
+-- end, and END set off in both or lacking in both, are both accepted or both refused, when each is at most 65,535 bytes, its table room is
+-- ample, and what stands before, between and after its elements, up to that END or the input's end, holds no fault. If accepted, the tables
+-- have equal meaning and equal length. If refused, it is with the same code, at the same element or at the input's end in both.
+-- Here is what the sentence speaks of; proofs/Reading/SameElements proves it.
 use Prim.Native.Nat.{ℕ, _+_, _≤_, _<_}
 use Prim.Native.Char.{code as byte}
 use mathlib.Core.Bool.{Bool, true, false}
@@ -61,7 +65,7 @@ pub data SamePlace : List ℕ → List ℕ → ℕ → ℕ → Type 0 where
   the-first : {p p′ : ℕ} {ps ps′ : List ℕ} → SamePlace (p ∷ ps) (p′ ∷ ps′) p p′
   further : {a a′ p p′ : ℕ} {ps ps′ : List ℕ} → SamePlace ps ps′ p p′ → SamePlace (a ∷ ps) (a′ ∷ ps′) p p′
 
--- are both accepted or both refused. The outcomes of two labels whose elements start at these places:
+-- Both accepted or both refused: the outcomes of two labels whose elements start at these places.
 pub data AlikeRead (l l′ ps ps′ : List ℕ) : Outcome → Outcome → Type 0 where
   -- If accepted, the tables have equal meaning and equal length; each place is the one past the three bytes of the same END.
   both-accepted : {rows rows′ : List Row} {p p′ : ℕ} → meaning l rows ≡ meaning l′ rows′ → length (table rows) ≡ length (table rows′) →
@@ -77,7 +81,7 @@ pub data AlikeRead (l l′ ps ps′ : List ℕ) : Outcome → Outcome → Type 0
 abbrev pub Ample : Mode → List ℕ → List ℕ → Type 0
 Ample m l room = (rows : List Row) (i : ℕ) → Reads m l (accepted rows i) → length (table rows) ≤ length room
 
--- What two calls say, and what their rooms hold then; the same of calls as of outcomes.
+-- Both accepted or both refused, of two calls: what they say, and what their rooms hold then.
 pub data AlikeSaid (l l′ ps ps′ : List ℕ) : Said → List ℕ → Said → List ℕ → Type 0 where
   both-stored : (rows rows′ : List Row) (rest rest′ : List ℕ) {p p′ : ℕ} → meaning l rows ≡ meaning l′ rows′ →
       length (table rows) ≡ length (table rows′) → SamePlace ps ps′ p p′ →

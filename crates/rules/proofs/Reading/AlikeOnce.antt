@@ -2,14 +2,14 @@
 use Prim.Native.Nat.{ℕ, _+_, _≤_, _<_}
 use native.Mathlib.Omega.{arith}
 use mathlib.Core.Path.{_≡_, refl, sym, ap, subst, subst₂, _∙_}
-use mathlib.Core.List.{List, [], _∷_, _++_}
+use mathlib.Core.List.{List, _++_}
 use lib.ListN.{length, length-append}
 use Rattle.rules.specs.Data.{Row}
 use Rattle.rules.specs.Modes.{Mode}
 use Rattle.rules.specs.Table.{table}
 use Rattle.rules.specs.Reading.{Outcome, accepted, refused}
 use Rattle.rules.specs.Meaning.{meaning}
-use Rattle.rules.specs.SameElements.{OneElement, spelled, any-word, any-symbol, Through, Listed, to-the-end, through-END, and-then, SameElements, SamePlace, the-first, further, AlikeRead, both-accepted, both-refused, both-at-the-end}
+use Rattle.rules.specs.SameElements.{OneElement, spelled, any-word, any-symbol, Through, Listed, through-END, and-then, SameElements, SamePlace, the-first, further, AlikeRead, both-accepted, both-refused, both-at-the-end}
 use Rattle.rules.proofs.Elements.Next.{spells-some}
 
 some-bytes : {m : Mode} {w r : List ℕ} → OneElement m w r → 0 < length w

@@ -10,7 +10,7 @@ use Rattle.rules.specs.Bytes.{stops}
 use Rattle.rules.specs.Data.{Span, Elem, end, Placed, _on_, Row, Opens}
 use Rattle.rules.specs.Modes.{Mode}
 use Rattle.rules.specs.Grammar.{strict}
-use Rattle.rules.specs.Elements.{setsOff, Gap, Cut, none-more, next, Spells, word, sign, one-star, two-stars, one-slash, quoted-text, quoted-symbol, Breaks, open-at-end, open-at, foreign, Fault, no-element, no-form, past-limit, broken-text, broken-symbol, broken-comment, empty-symbol, long-symbol}
+use Rattle.rules.specs.Elements.{setsOff, Gap, Cut, none-more, next, Spells, Breaks, open-at-end, open-at, foreign, Fault, no-element, no-form, past-limit, broken-text, broken-symbol, broken-comment, empty-symbol, long-symbol}
 use Rattle.rules.specs.Reading.{accepted, Judged, follows}
 use Rattle.rules.specs.SameElements.{OneElement, spelled, any-word, any-symbol, isEND, Through, first-END, Listed, to-the-end, through-END, and-then}
 use Rattle.rules.proofs.Grammar.Machine.{State, goes, step}
