@@ -53,14 +53,14 @@ pub fn next(label: &[u8], at: usize) -> Result<Element, Fault> {
     })
 }
 
-fn is_mark(byte: u8) -> bool {
+pub fn is_mark(byte: u8) -> bool {
     matches!(
         byte,
         b'=' | b',' | b'*' | b'/' | b'^' | b'<' | b'>' | b'(' | b')' | b'{' | b'}'
     )
 }
 
-fn is_word_byte(byte: u8) -> bool {
+pub fn is_word_byte(byte: u8) -> bool {
     byte.is_ascii_alphanumeric() || matches!(byte, b'_' | b'+' | b'-' | b'.' | b':' | b'#')
 }
 
@@ -102,7 +102,7 @@ pub fn is_symbol_byte(byte: u8) -> bool {
 }
 
 /// How many of the first bytes are of this sort.
-fn leading(bytes: &[u8], sort: impl Fn(u8) -> bool) -> usize {
+pub fn leading(bytes: &[u8], sort: impl Fn(u8) -> bool) -> usize {
     bytes
         .iter()
         .position(|&byte| !sort(byte))

@@ -1,5 +1,5 @@
 //! An independent model of the rules for ODL 2.1 labels: reader, writer,
-//! lookup, name view and text reassembly.
+//! lookup, name view, text reassembly, meaning, and layout.
 //!
 //! It is written from the scope paper, the rulings and chapter 12 of the
 //! standard, and shares no code with what it is compared against. It favours
@@ -8,7 +8,9 @@
 
 mod elements;
 mod gaps;
+pub mod layout;
 mod lookup;
+mod meaning;
 pub mod random;
 mod statements;
 mod table;
@@ -102,6 +104,14 @@ pub fn find(label: &[u8], table: &[u8], name: &[u8], row: usize) -> (u8, usize, 
 /// for the empty stretch that means refusal.
 pub fn name(label: &[u8], table: &[u8], row: usize) -> (usize, usize) {
     lookup::name_at(label, table, row).unwrap_or((0, 0))
+}
+
+/// The meaning of a table, row by row: equal for two tables, each over its own
+/// label, exactly if they mean the same. None if the table is not proper.
+pub fn meaning(label: &[u8], table: &[u8]) -> Option<Vec<Vec<u8>>> {
+    let rows = proper_rows(label, table).ok()?;
+    let meant = |&(_, row): &(usize, table::Row)| meaning::meant(label, row);
+    Some(rows.iter().map(meant).collect())
 }
 
 /// What the program `relabel` prints for this input: the canonical label, or

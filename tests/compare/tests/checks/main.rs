@@ -2,6 +2,9 @@
 
 mod array;
 mod documents;
+mod layout;
 mod listed;
+mod meaning;
 mod odd;
 mod random;
+mod support;

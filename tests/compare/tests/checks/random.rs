@@ -1,5 +1,6 @@
 //! Random cases; ODL_SEED chooses others.
 
+use crate::support::seed;
 use compare::chance::{self, Until};
 use compare::Call;
 use odl::Row;
@@ -10,7 +11,7 @@ const CASES: u64 = 150_000;
 
 #[test]
 fn random_cases_agree_and_reach_every_code() {
-    let seed = std::env::var("ODL_SEED").map_or(1, |seed| seed.parse().unwrap());
+    let seed = seed();
     // Past the test's capture, so that it is seen even if the library crashes.
     let _ = writeln!(std::io::stderr(), "random cases with seed {seed}");
     let tally = chance::run(seed, Until::Cases(CASES)).unwrap_or_else(|text| panic!("{text}"));

@@ -2,6 +2,8 @@
 //! must hold of every label and table.
 
 mod examples;
+mod layout;
+mod meaning;
 mod properties;
 mod rulings;
 mod support;

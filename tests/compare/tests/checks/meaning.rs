@@ -1,0 +1,121 @@
+//! Meaning and writing: two labels are written alike exactly if they mean the
+//! same, by the model's own meaning of the library's tables.
+
+use crate::support::*;
+use odl_model::layout::{list, relaid};
+use odl_model::meaning;
+use odl_model::random::{self, Random};
+
+const LABELS: usize = 1_500;
+const SMALL_LABELS: usize = 800;
+
+/// A label that the library accepts and writes.
+struct Known {
+    label: Vec<u8>,
+    meaning: Vec<Vec<u8>>,
+    written: Vec<u8>,
+}
+
+impl Known {
+    fn new(label: &[u8]) -> Option<Known> {
+        let (answer, table) = reading(label, 5 * label.len());
+        if answer.code != 0 {
+            return None;
+        }
+        let (answer, written) = writing(label, &table);
+        (answer.code == 0).then(|| Known {
+            label: label.to_vec(),
+            meaning: meaning(label, &table).expect("a table that was written is proper"),
+            written,
+        })
+    }
+
+    /// Whether the two mean the same, and so must be written alike.
+    fn means_the_same_as(&self, other: &Known) -> bool {
+        let is_same = self.meaning == other.meaning;
+        let (one, two) = (self.label.escape_ascii(), other.label.escape_ascii());
+        assert_eq!(self.written == other.written, is_same, "{one}\n{two}");
+        is_same
+    }
+}
+
+#[test]
+fn another_layout_and_the_written_label_mean_the_same() {
+    let mut random = Random::new(seed());
+    let mut relaid_labels = 0;
+    for _ in 0..LABELS {
+        let Some(known) = Known::new(&random::good_label(&mut random)) else {
+            continue;
+        };
+        let anew = relaid(&mut random, &list(&known.label).unwrap());
+        if let Some(anew) = Known::new(&anew) {
+            assert!(known.means_the_same_as(&anew));
+            relaid_labels += 1;
+        }
+        let written = Known::new(&known.written).unwrap();
+        assert!(known.means_the_same_as(&written));
+    }
+    assert!(relaid_labels > LABELS / 2, "{relaid_labels} relaid");
+}
+
+#[test]
+fn damaged_labels_that_are_accepted_mean_the_same_or_not() {
+    let mut random = Random::new(seed());
+    let (mut same, mut other) = (0, 0);
+    for _ in 0..LABELS {
+        let Some(known) = Known::new(&random::good_label(&mut random)) else {
+            continue;
+        };
+        let mut damaged = known.label.clone();
+        random::damage(&mut random, &mut damaged);
+        if let Some(damaged) = Known::new(&damaged) {
+            match known.means_the_same_as(&damaged) {
+                true => same += 1,
+                false => other += 1,
+            }
+        }
+    }
+    assert!(same > LABELS / 30, "{same} mean the same");
+    assert!(other > LABELS / 30, "{other} do not");
+}
+
+/// A label of one or two statements, with values that have many spellings, so
+/// that two of them often mean the same.
+fn small_label(random: &mut Random) -> Vec<u8> {
+    #[rustfmt::skip]
+    const VALUES: &[&str] = &[
+        "1", "+1", "01", "16#1#", "1.", "1.0", "10E-1", "-1", "0", "-0", "0.", "-0.0E7",
+        "x", "X", "'x'", "\"x\"", "\"X\"", "\"x\0\"", "\"x-\n\"", "'end'", "'END'", "\"END\"",
+        "\"a b\"", "\"a\nb\"", "\"a \r\n b\"", "\"a  b\"", "\"ab\"", "\"a-\nb\"", "\"a- \nb\"",
+        "1990-07", "1990-1-7", "1990-007T0:0", "12:00", "12:00:00.0z", "12:00+0", "12:00-0:01",
+        "(1)", "( 01 )", "((1))", "{1}", "{1,1}", "{}", "{ }", "(1,x)", "(1)",
+        "1<m>", "1<M**1>", "1<M**0>", "1.<m>", "1<m*s>", "1<M/S>", "1<m /S**+1>",
+    ];
+    let mut label = Vec::new();
+    for _ in 0..1 + usize::from(random.one_in(4)) {
+        let name = random.pick(&["A", "a", "\n/* c */\nA ", "^A"]);
+        let value = random.pick(VALUES);
+        label.extend(format!("{name}={value} ").bytes());
+    }
+    label.extend_from_slice(b"END");
+    label
+}
+
+#[test]
+fn small_labels_are_written_alike_exactly_if_they_mean_the_same() {
+    let mut random = Random::new(seed());
+    let known: Vec<Known> = (0..SMALL_LABELS)
+        .map(|_| Known::new(&small_label(&mut random)).unwrap())
+        .collect();
+    let (mut same, mut other) = (0, 0);
+    for (number, one) in known.iter().enumerate() {
+        for two in &known[..number] {
+            match one.means_the_same_as(two) {
+                true => same += 1,
+                false => other += 1,
+            }
+        }
+    }
+    assert!(same > 2 * SMALL_LABELS, "{same} mean the same");
+    assert!(other > 2 * SMALL_LABELS, "{other} do not");
+}
