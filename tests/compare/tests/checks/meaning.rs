@@ -1,10 +1,12 @@
 //! Meaning and writing: two labels are written alike exactly if they mean the
-//! same, by the model's own meaning of the library's tables.
+//! same, by the model's own meaning of the library's tables; and the crate's
+//! `same_meaning` tells it.
 
 use crate::support::*;
+use odl::Refused;
 use odl_model::layout::{list, relaid};
-use odl_model::meaning;
 use odl_model::random::{self, Random};
+use odl_model::{meaning, LONGEST_LABEL};
 
 const LABELS: usize = 1_500;
 const SMALL_LABELS: usize = 800;
@@ -50,33 +52,55 @@ fn another_layout_and_the_written_label_mean_the_same() {
         let anew = relaid(&mut random, &list(&known.label).unwrap());
         if let Some(anew) = Known::new(&anew) {
             assert!(known.means_the_same_as(&anew));
+            assert_eq!(odl::same_meaning(&known.label, &anew.label), Ok(true));
             relaid_labels += 1;
         }
         let written = Known::new(&known.written).unwrap();
         assert!(known.means_the_same_as(&written));
+        assert_eq!(odl::same_meaning(&written.label, &known.label), Ok(true));
     }
     assert!(relaid_labels > LABELS / 2, "{relaid_labels} relaid");
 }
 
+/// The code and place with which the model refuses to read a label, or to
+/// write it.
+fn model_refusal(label: &[u8]) -> (u8, usize) {
+    let mut table = vec![0; 5 * label.len()];
+    let read = odl_model::read(label, &mut table);
+    if read.code != 0 {
+        return (read.code, read.place);
+    }
+    let mut out = vec![0; LONGEST_LABEL];
+    let written = odl_model::write(label, &table[..read.length], &mut out);
+    (written.code, written.place)
+}
+
 #[test]
-fn damaged_labels_that_are_accepted_mean_the_same_or_not() {
+fn damaged_labels_mean_the_same_or_not_or_are_refused() {
     let mut random = Random::new(seed());
-    let (mut same, mut other) = (0, 0);
+    let (mut same, mut other, mut refused) = (0, 0, 0);
     for _ in 0..LABELS {
         let Some(known) = Known::new(&random::good_label(&mut random)) else {
             continue;
         };
         let mut damaged = known.label.clone();
         random::damage(&mut random, &mut damaged);
-        if let Some(damaged) = Known::new(&damaged) {
-            match known.means_the_same_as(&damaged) {
-                true => same += 1,
-                false => other += 1,
+        let told = odl::same_meaning(&known.label, &damaged);
+        let expected = Known::new(&damaged).map(|damaged| known.means_the_same_as(&damaged));
+        match (told, expected) {
+            (Ok(true), Some(true)) => same += 1,
+            (Ok(false), Some(false)) => other += 1,
+            (Err(Refused::Second(error)), None) => {
+                let told = (error.code as u8, error.place);
+                assert_eq!(told, model_refusal(&damaged), "{}", damaged.escape_ascii());
+                refused += 1;
             }
+            differs => panic!("{differs:?} {}", damaged.escape_ascii()),
         }
     }
     assert!(same > LABELS / 30, "{same} mean the same");
     assert!(other > LABELS / 30, "{other} do not");
+    assert!(refused > LABELS / 3, "{refused} are refused");
 }
 
 /// A label of one or two statements, with values that have many spellings, so
