@@ -269,6 +269,7 @@ class Comparing(unittest.TestCase):
             (b"10:00", b"10:00:00.000Z"),
             (b"-2 <DEG/SEC**1>", b"-2<deg/sec>"),
             (b'"Jupi-\n  ter\r\n\tring"', b'"Jupiter ring"'),
+            (b'"near\ninfrared"', b'"near infrared"'),
         ]
         self.values(pairs, True)
 
@@ -282,6 +283,9 @@ class Comparing(unittest.TestCase):
             (b"'A'", b'"A"'),
             (b'"io"', b'"IO"'),
             (b'"Jupi-\nter"', b'"Jupi- \nter"'),
+            (b'"near-\ninfrared"', b'"near-infrared"'),
+            (b'"near\ninfrared"', b'"near  infrared"'),
+            (b"1 <M/S>", b"1 <M*S**-1>"),
             (b"1990-07", b"1990-07-01"),
             (b"10:00+01", b"09:00Z"),
         ]

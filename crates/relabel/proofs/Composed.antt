@@ -10,11 +10,11 @@ use Rattle.rules.specs.Modes.{base}
 use Rattle.rules.specs.Table.{table}
 use Rattle.rules.specs.Meaning.{meaning}
 use Rattle.rules.specs.Written.{canonical}
-use Rattle.rules.specs.Proper.{proper-rows, improper-at, Ruled}
+use Rattle.rules.specs.Proper.{proper-rows, Ruled}
 use Rattle.rules.specs.Reading.{Said, Outcome, accepted, refused, Judged, misspelled, misplaced, ends-early, Reads, too-long, read, Answered, stored, no-room, not-read}
 use Rattle.rules.specs.Writing.{Writes, long-label, no-table, long-written, short-room, stored as put}
 use Rattle.rules.specs.Asked.{says}
-use Rattle.rules.proofs.Tables.Judge.{verdict-once}
+use Rattle.rules.proofs.Tables.Judge.{same-rows, not-both, verdict-once}
 use Rattle.rules.proofs.Tables.OwnTable.{read-ruled}
 use Rattle.statements.proofs.Codes.{judged-code}
 use Rattle.relabel.specs.Relabels.{Relabels}
@@ -47,12 +47,6 @@ refuses out k (no-room r h) n = relabel.long-table r (omega arith)
 refuses out k (not-read r) n = relabel.not-read r
 
 -- ---- the writing
-
-same-rows : {rs qs : List Row} → proper-rows rs ≡ proper-rows qs → rs ≡ qs
-same-rows e = cc
-
-not-both : {rs : List Row} {at : ℕ} → proper-rows rs ≡ improper-at at → ⊥
-not-both e = let z : _≡_ {A = ℕ} 0 1 = cc in omega arith
 
 short : {label : List ℕ} {rows : List Row} {i : ℕ} → Reads base label (accepted rows i) → length label ≤ 65535
 short (read h j) = h

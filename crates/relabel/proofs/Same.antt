@@ -14,7 +14,8 @@ use Rattle.rules.specs.Writing.{labelOf}
 use Rattle.rules.proofs.Reading.Reader.{reading-unique}
 use Rattle.rules.proofs.Rooms.{refusal-some}
 use Rattle.rules.proofs.Tables.OwnTable.{read-proper}
-use Rattle.rules.proofs.Written.RoundTrip.{accepted-same, equal-bytes}
+use Rattle.rules.proofs.Reading.Outcomes.{accepted-same}
+use Rattle.rules.proofs.Written.RoundTrip.{equal-bytes}
 use Rattle.rules.proofs.Written.SameMeaning.{equal-meaning}
 use Rattle.relabel.specs.Relabels.{Relabels, written, short-room, long-written, long-table, not-read}
 

@@ -3,7 +3,7 @@ use Prim.Native.Nat.{ℕ, _≤_, _<_}
 use native.Mathlib.Omega.{arith}
 use mathlib.Core.Logic.{_⊎_, inl, inr}
 use mathlib.Core.Bool.{Bool, true, false}
-use mathlib.Core.Path.{_≡_, refl}
+use mathlib.Core.Path.{_≡_, refl, subst}
 use mathlib.Core.List.{List}
 use borrow.Author.Tests.{leb-true, leb-false}
 use lib.Dec.{leb}
@@ -12,16 +12,17 @@ use lib.Seq.{take-append-seam, drop-append-seam}
 use Rattle.rules.specs.Data.{Row}
 use Rattle.rules.specs.Modes.{Mode}
 use Rattle.rules.specs.Table.{table}
-use Rattle.rules.specs.Reading.{longest, accepted, refused, Judged, Reads, too-long, read, Said, Answered, stored, no-room, not-read}
+use Rattle.rules.specs.Reading.{longest, Outcome, accepted, refused, Judged, Reads, too-long, read, Said, Answered, stored, no-room, not-read}
 use Rattle.rules.specs.Proper.{stretch, Proper, is-proper}
 use Rattle.rules.specs.Meaning.{reassemble, meaning}
 use Rattle.rules.specs.Written.{canonical}
 use Rattle.rules.specs.Writing as writing
 use Rattle.rules.specs.Writing.{Writes}
+use Rattle.rules.specs.SameElements.{Ample}
 use Rattle.rules.specs.Asked as asked
 use Rattle.rules.specs.Asked.{Texted}
-use Rattle.rules.proofs.Reading.Outcomes.{refusal-given}
-use Rattle.rules.proofs.Reading.Reader.{answered-unique}
+use Rattle.rules.proofs.Reading.Outcomes.{accepted-same, accepted-refused, refusal-given}
+use Rattle.rules.proofs.Reading.Reader.{reader, reads-sound, reading-unique, answered-unique}
 use Rattle.rules.proofs.Written.Outcome.{writes-once}
 
 -- ---- a reading
@@ -68,6 +69,15 @@ module _ {m : Mode} {l room : List ℕ} where
           let h = leb-false (length (table rows)) (length room) e in
           let u = answered-unique m l room a (no-room (read short j) h) .0 in
           inr (h, rw u refl, rw u refl, rw u refl)
+
+-- some room is ample for a label, in every mode
+pub some-ample : (m : Mode) (l : List ℕ) → (n : ℕ) × ((room : List ℕ) → n ≤ length room → Ample m l room)
+some-ample m l = go (reader m l) (reads-sound m l)
+  where
+    go : (z : Outcome) → Reads m l z → (n : ℕ) × ((room : List ℕ) → n ≤ length room → Ample m l room)
+    go (accepted rows i) r =
+        (length (table rows), λ room h rows′ i′ r′. subst (λ (rs : List Row). length (table rs) ≤ length room) (accepted-same (reading-unique m r r′)) h)
+    go (refused c i) r = (0, λ room h rows′ i′ r′. absurd (accepted-refused (reading-unique m r′ r)))
 
 -- ---- a writing
 

@@ -16,6 +16,7 @@ use Rattle.rules.specs.Values.{same}
 use Rattle.rules.specs.Elements.{Gap, inSymbol, inWord, setsOff, Spells}
 use Rattle.rules.specs.Table.{table}
 use Rattle.rules.specs.Reading.{Outcome, accepted, refused, Reads, Said, says}
+use Rattle.rules.specs.Proper.{proper-rows, Ruled}
 use Rattle.rules.specs.Meaning.{foldAll, meaning}
 
 -- ---- the list of elements
@@ -65,11 +66,16 @@ pub data SamePlace : List ℕ → List ℕ → ℕ → ℕ → Type 0 where
   the-first : {p p′ : ℕ} {ps ps′ : List ℕ} → SamePlace (p ∷ ps) (p′ ∷ ps′) p p′
   further : {a a′ p p′ : ℕ} {ps ps′ : List ℕ} → SamePlace ps ps′ p p′ → SamePlace (a ∷ ps) (a′ ∷ ps′) p p′
 
+-- at the last element of both, which is END where the labels are accepted
+pub data LastPlace : List ℕ → List ℕ → ℕ → ℕ → Type 0 where
+  the-only : {p p′ : ℕ} → LastPlace (p ∷ []) (p′ ∷ []) p p′
+  behind : {a a′ p p′ : ℕ} {ps ps′ : List ℕ} → LastPlace ps ps′ p p′ → LastPlace (a ∷ ps) (a′ ∷ ps′) p p′
+
 -- Both accepted or both refused: the outcomes of two labels whose elements start at these places.
 pub data AlikeRead (l l′ ps ps′ : List ℕ) : Outcome → Outcome → Type 0 where
-  -- If accepted, the tables have equal meaning and equal length; each place is the one past the three bytes of the same END.
+  -- If accepted, the tables have equal meaning and equal length; each place is the one past END, which has three bytes.
   both-accepted : {rows rows′ : List Row} {p p′ : ℕ} → meaning l rows ≡ meaning l′ rows′ → length (table rows) ≡ length (table rows′) →
-      SamePlace ps ps′ p p′ → AlikeRead l l′ ps ps′ (accepted rows (p + 3)) (accepted rows′ (p′ + 3))
+      LastPlace ps ps′ p p′ → AlikeRead l l′ ps ps′ (accepted rows (p + 3)) (accepted rows′ (p′ + 3))
   -- If refused, it is with the same code, at the same element
   both-refused : {c p p′ : ℕ} → SamePlace ps ps′ p p′ → AlikeRead l l′ ps ps′ (refused c p) (refused c p′)
   -- or at the input's end in both.
@@ -83,11 +89,13 @@ Ample m l room = (rows : List Row) (i : ℕ) → Reads m l (accepted rows i) →
 
 -- Both accepted or both refused, of two calls: what they say, and what their rooms hold then.
 pub data AlikeSaid (l l′ ps ps′ : List ℕ) : Said → List ℕ → Said → List ℕ → Type 0 where
-  both-stored : (rows rows′ : List Row) (rest rest′ : List ℕ) {p p′ : ℕ} → meaning l rows ≡ meaning l′ rows′ →
-      length (table rows) ≡ length (table rows′) → SamePlace ps ps′ p p′ →
-      AlikeSaid l l′ ps ps′ (says 0 (p + 3) (length (table rows))) (table rows ++ rest)
-      (says 0 (p′ + 3) (length (table rows′))) (table rows′ ++ rest′)
+  -- 0 in both: the tables that stand in the rooms, each proper over its label, have equal meaning and equal length; past END
+  both-stored : (rest rest′ : List ℕ) {t t′ : List ℕ} {rows rows′ : List Row} {p p′ : ℕ} → Ruled l t (proper-rows rows) →
+      Ruled l′ t′ (proper-rows rows′) → meaning l rows ≡ meaning l′ rows′ → length t ≡ length t′ → LastPlace ps ps′ p p′ →
+      AlikeSaid l l′ ps ps′ (says 0 (p + 3) (length t)) (t ++ rest) (says 0 (p′ + 3) (length t′)) (t′ ++ rest′)
+  -- the same code, which is not 0, at the same element
   both-not-read : {c p p′ : ℕ} {room room′ : List ℕ} → 0 < c → SamePlace ps ps′ p p′ →
       AlikeSaid l l′ ps ps′ (says c p 0) room (says c p′ 0) room′
+  -- or at the input's end in both
   both-ended : {c : ℕ} {room room′ : List ℕ} → 0 < c →
       AlikeSaid l l′ ps ps′ (says c (length l) 0) room (says c (length l′) 0) room′

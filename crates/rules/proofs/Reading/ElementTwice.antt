@@ -2,7 +2,7 @@
 use Prim.Native.Nat.{ℕ, _-_, _≤_}
 use native.Mathlib.Omega.{arith}
 use mathlib.Core.Bool.{Bool, true, false, cond, false≢true}
-use mathlib.Core.Option.{Option, none, some}
+use mathlib.Core.Option.{some, Option·some-ne-none}
 use mathlib.Core.Path.{_≡_, refl, sym, subst, _∙_}
 use mathlib.Core.List.{List, [], _∷_, _++_, map, append-assoc}
 use borrow.Author.Tests.{eqb-true}
@@ -51,6 +51,7 @@ not-end (range lo hi) f h = refl
 not-end text f h = refl
 not-end symbol f h = refl
 
+-- a word other than END is another element than END
 pub other-than-end : {m : Mode} {w r : List ℕ} {e : Elem} {q : ℕ} → Spells m w e q r → isEND w ≡ false → ending e ≡ false
 other-than-end (word {e = e} t f) h = not-end e f h
 other-than-end (sign k) h = refl
@@ -78,10 +79,8 @@ IsSign (a-sign f) = Unit {0}
 word-no-sign : (m : Mode) (b : ℕ) {f : Fixed} → wordByte b ≡ true → signOf m b ≡ some f → ⊥
 word-no-sign m b h k = let z : begin m b ≡ a-word = rw h in subst IsSign (sym (sign-begins m b k) ∙ z) tt
 
-no-sign : {f : Fixed} → _≡_ {A = Option Fixed} none (some f) → ⊥
-no-sign e = let z : _≡_ {A = ℕ} 0 1 = cc in omega arith
-
-begins-word : {b : ℕ} {w r : List ℕ} → Run inWord (b ∷ w) r → wordByte b ≡ true
+-- a word begins with a byte of words
+pub begins-word : {b : ℕ} {w r : List ℕ} → Run inWord (b ∷ w) r → wordByte b ≡ true
 begins-word (goes-on h t) = h
 
 module _ {m : Mode} where
@@ -103,13 +102,13 @@ module _ {m : Mode} where
   -- what follows a lone * or / is no *
   star-ends : {r : List ℕ} → OneElement m (42 ∷ []) r → front (λ b. eqb b 42) r ≡ false
   star-ends (spelled (word (goes-on h t) f)) = absurd (false≢true h)
-  star-ends (spelled (sign k)) = absurd (no-sign k)
+  star-ends (spelled (sign k)) = absurd (Option·some-ne-none _ (sym k))
   star-ends (spelled (one-star k)) = k
   star-ends (any-word (goes-on h t)) = absurd (false≢true h)
 
   slash-ends : {r : List ℕ} → OneElement m (47 ∷ []) r → front (λ b. eqb b 42) r ≡ false
   slash-ends (spelled (word (goes-on h t) f)) = absurd (false≢true h)
-  slash-ends (spelled (sign k)) = absurd (no-sign k)
+  slash-ends (spelled (sign k)) = absurd (Option·some-ne-none _ (sym k))
   slash-ends (spelled (one-slash k)) = k
   slash-ends (any-word (goes-on h t)) = absurd (false≢true h)
 

@@ -3,7 +3,7 @@ use Prim.Native.Nat.{ℕ, _+_, _≤_}
 use native.Mathlib.Omega.{arith}
 use mathlib.Core.Bool.{Bool, true, false, cond, true≢false}
 use mathlib.Core.Logic.{_↔_}
-use mathlib.Core.Option.{Option, none, some}
+use mathlib.Core.Option.{Option, none, some, Option·some-injective, Option·some-ne-none}
 use mathlib.Core.Path.{_≡_, refl, sym, ap, ap₂, subst, _∙_}
 use mathlib.Core.List.{List, [], _∷_, _++_, append-assoc, append-cancel-left}
 use lib.Dec.{eqb}
@@ -50,22 +50,16 @@ Sound (found e q g w r) = Unit {0}
 Sound (faulty c g) = 4 ≤ c
 Sound none-left = Unit {0}
 
-some-is : {g g′ : List ℕ} → _≡_ {A = Option (List ℕ)} (some g) (some g′) → g ≡ g′
-some-is e = cc
-
-none-some : {g : List ℕ} → _≡_ {A = Option (List ℕ)} none (some g) → ⊥
-none-some {g} e = let z : _≡_ {A = ℕ} 0 1 = cc in omega arith
-
 -- a list of elements, their places, and how it ends
 abbrev pub HasList : Mode → List ℕ → Type 0
 HasList m l = (ws : List (List ℕ)) × (ps : List ℕ) × (t : Through) × Listed m 0 l ws ps t
 
 module _ (m : Mode) where
-  begins-word : {b : ℕ} {w r : List ℕ} → Run inWord (b ∷ w) r → begin m b ≡ a-word
-  begins-word (Run.goes-on h t) = rw h
+  word-begins : {b : ℕ} {w r : List ℕ} → Run inWord (b ∷ w) r → begin m b ≡ a-word
+  word-begins t = rw (Twice.begins-word t)
 
   word-front : {b : ℕ} {w r : List ℕ} → Run inWord (b ∷ w) r → frontAt m ((b ∷ w) ++ r) ≡ (b ∷ w, r)
-  word-front {b} {w} {r} t = ap (λ (x : Begin). frontOf x b (w ++ r)) (begins-word t) ∙ run-span t
+  word-front {b} {w} {r} t = ap (λ (x : Begin). frontOf x b (w ++ r)) (word-begins t) ∙ run-span t
 
   symbol-front : {t r : List ℕ} → Run inSymbol t (39 ∷ r) → frontAt m ((39 ∷ (t ++ 39 ∷ [])) ++ r) ≡ (39 ∷ (t ++ 39 ∷ []), r)
   symbol-front h = simp append-assoc (ap (closed 39) (run-span h))
@@ -111,7 +105,7 @@ module _ (m : Mode) where
   once {g} {g′} {w} {w′} {r} {r′} x s x′ s′ e =
       let a = there x s in
       let b = there x′ s′ in
-      let h : g ≡ g′ = some-is (sym (a .gap) ∙ ap gapOf (sym (a .is) ∙ ap (nextElement m) e ∙ b .is) ∙ b .gap) in
+      let h : g ≡ g′ = Option·some-injective g g′ (sym (a .gap) ∙ ap gapOf (sym (a .is) ∙ ap (nextElement m) e ∙ b .is) ∙ b .gap) in
       let k : w ++ r ≡ w′ ++ r′ = append-cancel-left g′ (w ++ r) (w′ ++ r′) (ap (λ (t : List ℕ). t ++ (w ++ r)) (sym h) ∙ e) in
       let f = sym (front-is s) ∙ ap (frontAt m) k ∙ front-is s′ in
       (h, ap (λ (t : Split). t .0) f, ap (λ (t : Split). t .1) f)
@@ -120,7 +114,7 @@ module _ (m : Mode) where
   none-there : {g g′ w r : List ℕ} → Gap m g [] → Gap m g′ (w ++ r) → OneElement m w r → g ≡ g′ ++ (w ++ r) → ⊥
   none-there x x′ s e =
       let b = there x′ s in
-      none-some (ap gapOf (sym (at-end x) ∙ ap (nextElement m) e ∙ b .is) ∙ b .gap)
+      Option·some-ne-none _ (sym (ap gapOf (sym (at-end x) ∙ ap (nextElement m) e ∙ b .is) ∙ b .gap))
 
   -- the elements of a label, their places, and how they end
   same-list : {i i′ : ℕ} {l l′ ps ps′ : List ℕ} {ws ws′ : List (List ℕ)} {t t′ : Through} → Listed m i l ws ps t → Listed m i′ l′ ws′ ps′ t′ → i ≡ i′ → l ≡ l′ → (ws ≡ ws′) × (ps ≡ ps′) × (t ≡ t′)
@@ -143,6 +137,7 @@ module _ (m : Mode) where
       let y = same-list a a′ (ap₂ (λ (n : ℕ) (w : List ℕ). n + length w) j (z .1)) (z .2) in
       (ap₂ (λ (w : List ℕ) (ws : List (List ℕ)). w ∷ ws) (z .1) (y .0), ap₂ (λ (p : ℕ) (ps : List ℕ). p ∷ ps) j (y .1), y .2)
 
+  -- a label has one list of elements at most
   pub listed-once : {i : ℕ} {l ps ps′ : List ℕ} {ws ws′ : List (List ℕ)} {t t′ : Through} → Listed m i l ws ps t → Listed m i l ws′ ps′ t′ → (ws ≡ ws′) × (ps ≡ ps′) × (t ≡ t′)
   listed-once a b = same-list a b refl refl
 
@@ -154,7 +149,7 @@ module _ (m : Mode) where
       omega (arith, k)
 
   unspoilt : {i : ℕ} {l l′ ps : List ℕ} {ws : List (List ℕ)} {t : Through} → Listed m i l ws ps t → Spoilt m l′ → l ≡ l′ → ⊥
-  unspoilt (to-the-end x) (spoilt-here y f n) e = none-some (ap gapOf (sym (at-end x) ∙ ap (nextElement m) e ∙ next-complete m (faults y f)))
+  unspoilt (to-the-end x) (spoilt-here y f n) e = Option·some-ne-none _ (sym (ap gapOf (sym (at-end x) ∙ ap (nextElement m) e ∙ next-complete m (faults y f))))
   unspoilt (to-the-end x) (spoilt-later y s h b) e = none-there x y s e
   unspoilt (through-END x s k o) (spoilt-here y f n) e = no-fault x s y f n e
   unspoilt (through-END x s k o) (spoilt-later y s′ h b) e = true≢false (sym k ∙ ap isEND (once x s y s′ e .1) ∙ h)

@@ -1,5 +1,5 @@
--- Which labels have their elements set out so that layout means nothing: every accepted one, and of the others all but those with a fault of
--- code 2 or 3, which is no element's.
+-- Which labels have a list of elements: every accepted one, and of the others all but those that have, up to their first END, a fault of code 2 or 3,
+-- which is no element's.
 use Prim.Native.Nat.{ℕ, zero, suc, _+_, _≤_, _<_}
 use native.Mathlib.Omega.{arith}
 use mathlib.Core.Bool.{Bool, true, false, true≢false}
@@ -12,7 +12,7 @@ use Rattle.rules.specs.Modes.{Mode}
 use Rattle.rules.specs.Grammar.{strict}
 use Rattle.rules.specs.Elements.{setsOff, Gap, Cut, none-more, next, Spells, Breaks, open-at-end, open-at, foreign, Fault, no-element, no-form, past-limit, broken-text, broken-symbol, broken-comment, empty-symbol, long-symbol}
 use Rattle.rules.specs.Reading.{accepted, Judged, follows}
-use Rattle.rules.specs.SameElements.{OneElement, spelled, any-word, any-symbol, isEND, Through, first-END, Listed, to-the-end, through-END, and-then}
+use Rattle.rules.specs.SameElements.{OneElement, spelled, any-word, any-symbol, isEND, Through, first-END, Listed, to-the-end, through-END, and-then, SameElements}
 use Rattle.rules.proofs.Grammar.Machine.{State, goes, step}
 use Rattle.rules.proofs.Grammar.Run.{Reach, here, by-step}
 use Rattle.rules.proofs.Grammar.Complete.{refuses-goes, complete}
@@ -23,17 +23,23 @@ use Rattle.rules.proofs.Reading.Reader.{isEnd}
 use Rattle.rules.proofs.Reading.Modes.{ends-offers}
 use Rattle.rules.proofs.Elements.Next.{NextIs, finds, faults, ends, spells-some, next-sound}
 
-breaks-two : {p : ℕ → Bool} {r : List ℕ} {c : ℕ} → Breaks p r c → c ≤ 3
-breaks-two open-at-end = omega arith
-breaks-two (open-at h) = omega arith
-breaks-two (foreign h) = omega arith
+breaks-code : {p : ℕ → Bool} {r : List ℕ} {c : ℕ} → Breaks p r c → c ≤ 3
+breaks-code open-at-end = omega arith
+breaks-code (open-at h) = omega arith
+breaks-code (foreign h) = omega arith
 
 module _ (m : Mode) where
-  -- behind elements other than END, and a gap, a fault of code 2 or 3
+  -- two labels with equal lists that end alike have the same elements
+  pub listed-same : {l l′ ps ps′ : List ℕ} {ws : List (List ℕ)} {t : Through} → Listed m 0 l ws ps t → Listed m 0 l′ ws ps′ t → SameElements m l l′ ps ps′
+  listed-same {ws = ws} {t = t} a b = record { elements = ws; through = t; one = a; other = b }
+
+  -- A fault stands outside the elements, up to the first END: behind elements other than END, and a gap, a fault of code 2 or 3. Those of 4 and 5 are at
+  -- an element.
   pub data Spoilt : List ℕ → Type 0 where
     spoilt-here : {g r : List ℕ} {c : ℕ} → Gap m g r → Fault m r c → c ≤ 3 → Spoilt (g ++ r)
     spoilt-later : {g w l : List ℕ} → Gap m g (w ++ l) → OneElement m w l → isEND w ≡ false → Spoilt l → Spoilt (g ++ (w ++ l))
 
+  -- a list of elements, or such a fault
   pub data Cover (i : ℕ) (l : List ℕ) : Type 0 where
     listed : {ws : List (List ℕ)} {ps : List ℕ} {t : Through} → Listed m i l ws ps t → Cover i l
     spoilt : Spoilt l → Cover i l
@@ -47,9 +53,9 @@ module _ (m : Mode) where
   whose (no-element f g h k) = no-element's (no-element f g h k) (omega arith)
   whose (no-form t f) = an-element's (any-word t) (omega arith)
   whose (past-limit t f) = an-element's (any-word t) (omega arith)
-  whose (broken-text t h k) = no-element's (broken-text t h k) (breaks-two k)
-  whose (broken-symbol t h k) = no-element's (broken-symbol t h k) (breaks-two k)
-  whose (broken-comment t h k) = no-element's (broken-comment t h k) (breaks-two k)
+  whose (broken-text t h k) = no-element's (broken-text t h k) (breaks-code k)
+  whose (broken-symbol t h k) = no-element's (broken-symbol t h k) (breaks-code k)
+  whose (broken-comment t h k) = no-element's (broken-comment t h k) (breaks-code k)
   whose empty-symbol = an-element's (any-symbol {t = []} (stops refl)) (omega arith)
   whose (long-symbol {t} {r} u h) =
       let x : Whose ((39 ∷ (t ++ 39 ∷ [])) ++ r) = an-element's (any-symbol u) (omega arith) in
@@ -76,7 +82,7 @@ module _ (m : Mode) where
       go n ih (faults gap f) = at-fault n ih gap (whose f)
       go n ih (ends gap) = listed (to-the-end gap)
 
-  -- every label has its elements set out, or a fault of code 2 or 3 that is no element's, before its first END
+  -- every label has the one or the other
   pub cover : (l : List ℕ) → Cover 0 l
   cover l = covers (suc (length l)) 0 l (omega arith)
 
@@ -111,6 +117,6 @@ module _ (m : Mode) where
   cut-listed {q} {o = o} (next {e = e} g w gap s c) (by-step h t) x y =
       through gap (spelled s) (λ k. end-off q o _ s k h) (λ k. cut-listed c t (leads m q o e _ h ∙ other-than-end s k) y)
 
-  -- every accepted label has its elements set out, through an END that is set off
+  -- every accepted label has a list of elements, through an END that is set off
   pub accepted-listed : {l : List ℕ} {rows : List Row} {i : ℕ} → Judged m l (accepted rows i) → (ws : List (List ℕ)) × (ps : List ℕ) × Listed m 0 l ws ps (first-END true)
   accepted-listed (follows c L) = cut-listed c (complete m strict L) refl refl

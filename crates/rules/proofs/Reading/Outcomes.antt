@@ -19,6 +19,13 @@ use Rattle.rules.proofs.Grammar.Complete.{refuses-goes, complete}
 use Rattle.rules.proofs.Grammar.Theorems.{unique}
 use Rattle.rules.proofs.Reading.Reader.{judge, judge-sound, judge-complete, cut-length, end-refuses}
 
+-- an outcome tells what it is
+pub accepted-same : {rows rows′ : List Row} {i j : ℕ} → accepted rows i ≡ accepted rows′ j → rows ≡ rows′
+accepted-same e = cc
+
+pub accepted-refused : {rows : List Row} {i c j : ℕ} → accepted rows i ≡ refused c j → ⊥
+accepted-refused {rows} {i} {c} {j} e = let z : _≡_ {A = ℕ} 0 1 = cc in omega arith
+
 module _ (m : Mode) where
   -- the rules accept or refuse every list of bytes, with one table, or one code and place
   pub one-outcome : (l : List ℕ) → (z : Outcome) × Judged m l z × ((z′ : Outcome) → Judged m l z′ → z′ ≡ z)

@@ -10,14 +10,15 @@ use Rattle.rules.specs.Modes.{Mode}
 use Rattle.rules.specs.Grammar.{strict}
 use Rattle.rules.specs.Elements.{Gap, Spells, placed}
 use Rattle.rules.specs.Table.{table}
-use Rattle.rules.specs.Proper.{stretch}
+use Rattle.rules.specs.Proper.{stretch, proper-rows, Ruled}
 use Rattle.rules.specs.Reading.{Outcome, accepted, refused, Judged, longest, Reads, too-long, read, Said, says, Answered, stored, no-room, not-read}
-use Rattle.rules.specs.SameElements.{isEND, Through, Listed, to-the-end, through-END, and-then, SameElements, the-first, further, AlikeRead, both-accepted, both-refused, both-at-the-end, Ample, AlikeSaid, both-stored, both-not-read, both-ended}
+use Rattle.rules.specs.SameElements.{isEND, Through, Listed, to-the-end, through-END, and-then, SameElements, the-first, further, the-only, behind, AlikeRead, both-accepted, both-refused, both-at-the-end, Ample, AlikeSaid, both-stored, both-not-read, both-ended}
 use Rattle.rules.proofs.Grammar.Machine.{State, at-statement, Answer, step}
 use Rattle.rules.proofs.Reading.StepTwice.{ending, Held, Rows, append, Like, plain, Answers, both-refuse, both-goes, step-both}
 use Rattle.rules.proofs.Reading.ElementTwice.{other-than-end, Both, both-spelled, both-faulty, both, spells-end}
 use Rattle.rules.proofs.Reading.Reader.{isEnd, onto, at-the-end, at-a-fault, at-an-element, at-no-more, Goes, now, later, gather, judged, judge-complete}
 use Rattle.rules.proofs.Rooms.{refusal-some}
+use Rattle.rules.proofs.Tables.OwnTable.{read-ruled}
 use Rattle.rules.proofs.Reading.EndWord.{end-word-size}
 use Rattle.rules.proofs.Reading.Stretches.{Bare, bare, stretch-is}
 
@@ -42,12 +43,12 @@ at-last : {l : List ℕ} {i : ℕ} {r : List ℕ} → From l i r → i + length 
 at-last {l} {i} {r} f = let e : length l ≡ length (f .before) + length r = ap length (f .is) ∙ length-append (f .before) r in omega (arith, f .size, e)
 
 -- what a call gives, where the room is ample
-data Gives : Outcome → Said → List ℕ → Type 0 where
-  a-table : (rows : List Row) (rest : List ℕ) {i : ℕ} → Gives (accepted rows i) (says 0 i (length (table rows))) (table rows ++ rest)
-  no-table : {c i : ℕ} {room : List ℕ} → 0 < c → Gives (refused c i) (says c i 0) room
+data Gives (l : List ℕ) : Outcome → Said → List ℕ → Type 0 where
+  a-table : (rows : List Row) (rest : List ℕ) {i : ℕ} → Ruled l (table rows) (proper-rows rows) → Gives l (accepted rows i) (says 0 i (length (table rows))) (table rows ++ rest)
+  no-table : {c i : ℕ} {room : List ℕ} → 0 < c → Gives l (refused c i) (says c i 0) room
 
-given : {m : Mode} {l room after : List ℕ} {s : Said} → Ample m l room → Answered m l room s after → (z : Outcome) × Reads m l z × Gives z s after
-given k (stored {rows} {i} r h) = (accepted rows i, r, a-table rows _)
+given : {m : Mode} {l room after : List ℕ} {s : Said} → Ample m l room → Answered m l room s after → (z : Outcome) × Reads m l z × Gives l z s after
+given {m} {l} k (stored {rows} {i} r h) = (accepted rows i, r, a-table rows _ (read-ruled m l r))
 given k (no-room {rows} {i} r h) = absurd (omega (arith, k rows i r))
 given k (not-read {c} {i} r) = (refused c i, r, no-table (refusal-some r))
 
@@ -70,7 +71,7 @@ module _ (m : Mode) (l l′ : List ℕ) where
 
   -- one element more before
   longer : {rs rs′ : List Row} {ps ps′ : List ℕ} (p p′ : ℕ) {z z′ : Outcome} → AlikeRead l l′ ps ps′ z z′ → Rows l l′ rs rs′ → AlikeRead l l′ (p ∷ ps) (p′ ∷ ps′) (onto rs z) (onto rs′ z′)
-  longer p p′ (both-accepted x y s) h = let k = append l l′ h (record { meant = x; sized = y }) in both-accepted (k .meant) (k .sized) (further s)
+  longer p p′ (both-accepted x y s) h = let k = append l l′ h (record { meant = x; sized = y }) in both-accepted (k .meant) (k .sized) (behind s)
   longer p p′ (both-refused s) h = both-refused (further s)
   longer p p′ both-at-the-end h = both-at-the-end
 
@@ -134,7 +135,7 @@ module _ (m : Mode) (l l′ : List ℕ) where
 
   -- END, set off in both or in neither: the place past it is three bytes on
   accepted-past : {p p′ n : ℕ} {rs rs′ : List Row} → n ≡ 3 → Rows l l′ rs rs′ → AlikeRead l l′ (p ∷ []) (p′ ∷ []) (onto rs (accepted [] (p + n))) (onto rs′ (accepted [] (p′ + n)))
-  accepted-past e h = let k = append l l′ h (record { meant = refl; sized = refl }) in rw e (both-accepted (k .meant) (k .sized) the-first)
+  accepted-past e h = let k = append l l′ h (record { meant = refl; sized = refl }) in rw e (both-accepted (k .meant) (k .sized) the-only)
 
   the-END : {q q′ : State} {o : Opens} {i i′ : ℕ} {g g′ w r r′ : List ℕ} {off : Bool} → Like l l′ q q′ → isEnd q ≡ false → isEnd q′ ≡ false →
       From l i (g ++ (w ++ r)) → From l′ i′ (g′ ++ (w ++ r′)) → Gap m g (w ++ r) → Gap m g′ (w ++ r′) → Spells m w (end off) 0 r → Spells m w (end off) 0 r′ → length w ≡ 3 →
@@ -170,6 +171,7 @@ module _ (m : Mode) (l l′ : List ℕ) where
     start : Read at-statement at-statement outside 0 0 l l′ ps ps′
     start = same (plain at-statement tt) refl refl (from-start l) (from-start l′) (a .one) (a .other)
 
+    -- of labels of any length
     pub alike-judged : {z z′ : Outcome} → Judged m l z → Judged m l′ z′ → AlikeRead l l′ ps ps′ z z′
     alike-judged j j′ =
         let r = start in
@@ -184,8 +186,8 @@ module _ (m : Mode) (l l′ : List ℕ) where
     alike-read h h′ (read k j) (too-long k′) = absurd (omega arith)
     alike-read h h′ (read k j) (read k′ j′) = alike-judged j j′
 
-    combined : {z z′ : Outcome} {s s′ : Said} {after after′ : List ℕ} → AlikeRead l l′ ps ps′ z z′ → Gives z s after → Gives z′ s′ after′ → AlikeSaid l l′ ps ps′ s after s′ after′
-    combined (both-accepted x y p) (a-table rows rest) (a-table rows′ rest′) = both-stored rows rows′ rest rest′ x y p
+    combined : {z z′ : Outcome} {s s′ : Said} {after after′ : List ℕ} → AlikeRead l l′ ps ps′ z z′ → Gives l z s after → Gives l′ z′ s′ after′ → AlikeSaid l l′ ps ps′ s after s′ after′
+    combined (both-accepted x y p) (a-table rows rest v) (a-table rows′ rest′ v′) = both-stored rest rest′ v v′ x y p
     combined (both-refused p) (no-table n) (no-table n′) = both-not-read n p
     combined both-at-the-end (no-table n) (no-table n′) = both-ended n
 

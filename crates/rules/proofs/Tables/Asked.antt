@@ -14,7 +14,7 @@ use Rattle.rules.specs.Proper.{stretch, Proper, Verdict, proper-rows, im
 use Rattle.rules.specs.Meaning.{reassemble}
 use Rattle.rules.specs.Asked.{From, Starts, says, long-label, no-table, Rows, Texted, text-refused, no-text, short-room, given, Names, of-attribute, of-pointer, of-block, of-symbol, of-unit, Shows, nowhere, Viewed, in-view, no-view, Line, an-attribute, a-pointer, an-opening, a-closing, the-last, Finding, stands, absent, Looks, Sought, search-refused, no-line, no-name, at-offset}
 use Rattle.rules.proofs.Tables.Tests.{cond-case}
-use Rattle.rules.proofs.Tables.Judge.{judgeTable, verdict-sound, verdict-once, verdict-complete}
+use Rattle.rules.proofs.Tables.Judge.{same-rows, not-both, judgeTable, verdict-sound, verdict-once, verdict-complete}
 use Rattle.rules.proofs.Tables.Seeking.{fromOf, from-is, from-there, seeks, looks-is, looks-there}
 
 -- ---- what a row shows
@@ -150,12 +150,6 @@ no-rows e = let w : _≡_ {A = ℕ} 0 1 = cc in omega arith
 first-same : {r r′ : Row} {qs qs′ : List Row} → r ∷ qs ≡ r′ ∷ qs′ → r ≡ r′
 first-same e = cc
 
-rows-same : {rs qs : List Row} → proper-rows rs ≡ proper-rows qs → rs ≡ qs
-rows-same e = cc
-
-other-verdict : {at : ℕ} {rs : List Row} → improper-at at ≡ proper-rows rs → ⊥
-other-verdict e = let w : _≡_ {A = ℕ} 0 1 = cc in omega arith
-
 is-rows : {given lent : List ℕ} {rows : List Row} → Ruled given lent (proper-rows rows) → Proper given rows
 is-rows (is-proper e p) = p
 
@@ -283,7 +277,7 @@ module _ (label lent : List ℕ) (row : ℕ) where
 
   pub shows-once : {p p′ : Span} → Shows label lent row p → Shows label lent row p′ → p ≡ p′
   shows-once a b =
-      let e : a .rows ≡ b .rows = rows-same (verdict-once label (a .told .short) lent (a .told .proper) (b .told .proper)) in
+      let e : a .rows ≡ b .rows = same-rows (verdict-once label (a .told .short) lent (a .told .proper) (b .told .proper)) in
       let f : a .shown ≡ b .shown = starts-once (subst (λ (rs : List Row). Starts row rs (a .shown)) e (a .starts)) (b .starts) in
       some-same (sym (name-is (a .name)) ∙ ap nameOf f ∙ name-is (b .name))
 
@@ -296,13 +290,13 @@ module _ (label lent : List ℕ) (row : ℕ) where
   pub viewed-there : Viewed label lent row (viewedOf label lent row)
   unfolding viewedOf
   viewed-there =
-      each (Viewed label lent row) _ _ _ (λ h. no-view (λ p a. omega (arith, a .told .short))) (λ at h v. no-view (λ p a. other-verdict (verdict-once label h lent v (a .told .proper)))) (λ rows t.
+      each (Viewed label lent row) _ _ _ (λ h. no-view (λ p a. omega (arith, a .told .short))) (λ at h v. no-view (λ p a. not-both (sym (verdict-once label h lent v (a .told .proper))))) (λ rows t.
       each-row (Viewed label lent row) _ _ rows (λ n. no-view (λ p a. n (a .shown) (move rows t a))) (λ r st.
       each-span (Viewed label lent row) _ _ (nameOf r) (λ e. no-view (λ p a. none-some (sym e ∙ ap nameOf (starts-once st (move rows t a)) ∙ name-is (a .name)))) (λ p e.
       in-view (record { rows = rows; told = t; shown = r; starts = st; name = name-there r e }))))
     where
       move : (rows : List Row) → Rows label lent rows → {p : Span} (a : Shows label lent row p) → Starts row rows (a .shown)
-      move rows t a = subst (λ (rs : List Row). Starts row rs (a .shown)) (rows-same (verdict-once label (t .short) lent (a .told .proper) (t .proper))) (a .starts)
+      move rows t a = subst (λ (rs : List Row). Starts row rs (a .shown)) (same-rows (verdict-once label (t .short) lent (a .told .proper) (t .proper))) (a .starts)
 
   -- the lookup
 

@@ -116,6 +116,10 @@ module _ (m : Mode) (commas : m .members-beside ≡ false) where
   pub mode-label-bound : {l : List ℕ} {rows : List Row} {i : ℕ} → Judged m l (accepted rows i) → length (table rows) ≤ 5 * length l
   mode-label-bound (follows c k) = omega (arith, label-short m strict commas k, cut-widths c, cut-length m c)
 
+  -- room of five times the label's length is ample
+  pub ample-room : (l room : List ℕ) → 5 * length l ≤ length room → Ample m l room
+  ample-room l room h rows i (read k j) = omega (arith, mode-label-bound j)
+
 pub table-bound : {l : List ℕ} {rows : List Row} {i : ℕ} → Judged base l (accepted rows i) → length (table rows) ≤ 5 * i
 table-bound j = mode-bound base refl j
 
@@ -124,8 +128,4 @@ label-bound j = mode-label-bound base refl j
 
 -- room of five times the label's length is enough for its table
 pub enough-room : (l room : List ℕ) {rows : List Row} {i : ℕ} → 5 * length l ≤ length room → Reads base l (accepted rows i) → length (table rows) ≤ length room
-enough-room l room h (read k j) = omega (arith, label-bound j)
-
--- and so ample, as layout asks for it
-pub ample-room : (l room : List ℕ) → 5 * length l ≤ length room → Ample base l room
-ample-room l room h rows i r = enough-room l room h r
+enough-room l room {rows} {i} h r = ample-room base refl l room h rows i r

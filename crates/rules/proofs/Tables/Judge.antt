@@ -44,6 +44,13 @@ steps-to e = cc
 steps-row : {r r′ : Row} {s s′ : List ℕ} {t t′ : Await} {o o′ : Kinds} → steps r s t o ≡ steps r′ s′ t′ o′ → r ≡ r′
 steps-row e = cc
 
+-- a verdict tells what it is
+pub same-rows : {rs qs : List Row} → proper-rows rs ≡ proper-rows qs → rs ≡ qs
+same-rows e = cc
+
+pub not-both : {rs : List Row} {at : ℕ} → proper-rows rs ≡ improper-at at → ⊥
+not-both e = let z : _≡_ {A = ℕ} 0 1 = cc in omega arith
+
 module _ (given : List ℕ) (t : Await) (o : Kinds) where
   -- a step is a row that is read, and fine
   stepped : (d : Decoded) {r : Row} {s : List ℕ} {t′ : Await} {o′ : Kinds} → stepWith given t o d ≡ steps r s t′ o′ → (d ≡ got r s) × Fine given t o r t′ o′

@@ -14,9 +14,9 @@ use Rattle.rules.specs.Meaning.{meaning}
 use Rattle.rules.specs.Written.{canonical}
 use Rattle.rules.specs.Writing.{Writes, long-label, no-table, long-written, short-room, stored}
 use Rattle.rules.proofs.Tables.Bound.{enough-room}
-use Rattle.rules.proofs.Tables.Judge.{verdict-once}
+use Rattle.rules.proofs.Tables.Judge.{same-rows, not-both, verdict-once}
 use Rattle.rules.proofs.Written.RoundTrip.{reads-back}
-use Rattle.rules.proofs.Written.Outcome.{same-rows, not-both, writes-once}
+use Rattle.rules.proofs.Written.Outcome.{writes-once}
 
 -- ---- what a writing left in the room is read back
 

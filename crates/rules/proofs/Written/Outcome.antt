@@ -16,7 +16,7 @@ use Rattle.rules.specs.Writing.{Writes, long-label, no-table, long-writt
 use Rattle.rules.specs.Asked.{says}
 use Rattle.rules.proofs.Tables.Tests.{cond-case}
 use Rattle.rules.proofs.Tables.Asked.{onVerdict}
-use Rattle.rules.proofs.Tables.Judge.{judgeTable, verdict-sound, verdict-once}
+use Rattle.rules.proofs.Tables.Judge.{same-rows, not-both, judgeTable, verdict-sound, verdict-once}
 
 -- an outcome: what is said, and the room after
 abbrev pub Return : Type 0
@@ -34,14 +34,8 @@ writtenOf label lent room =
     (onVerdict (judgeTable label lent) (λ at. (says 12 at 0, room)) (λ rows. writtenInto room (canonical (meaning label rows))))
     (says 1 longest 0, room)
 
-pub same-rows : {rs qs : List Row} → proper-rows rs ≡ proper-rows qs → rs ≡ qs
-same-rows e = cc
-
 same-place : {i j : ℕ} → improper-at i ≡ improper-at j → i ≡ j
 same-place e = cc
-
-pub not-both : {rs : List Row} {i : ℕ} → proper-rows rs ≡ improper-at i → ⊥
-not-both e = let z : _≡_ {A = ℕ} 0 1 = cc in omega arith
 
 module _ (label lent room : List ℕ) where
   -- where the table is proper, its canonical label decides

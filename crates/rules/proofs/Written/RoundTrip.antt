@@ -20,6 +20,7 @@ use Rattle.rules.proofs.Written.Writing.{written-label}
 use Rattle.rules.proofs.Written.Spans.{written-meaning}
 use Rattle.rules.proofs.Written.Spelling.{written-cut}
 use Rattle.rules.proofs.Reading.Reader.{judge-complete}
+use Rattle.rules.proofs.Reading.Outcomes.{accepted-same}
 use Rattle.rules.proofs.Tables.OwnTable.{read-proper}
 
 -- what is wanted of a label that is written: it follows the rules, and its table means `m`
@@ -43,9 +44,6 @@ judged-back given rows p =
     let a = proper .0 p in
     let m = meaning given rows in
     accepted-back m (clean-meaning given rows (a .spans)) (alike-values rows m (sym (aside-meaning given rows)) (a .values)) (alike-run rows m (sym (aside-meaning given rows)) (a .run))
-
-pub accepted-same : {rows rows′ : List Row} {i j : ℕ} → accepted rows i ≡ accepted rows′ j → rows ≡ rows′
-accepted-same e = cc
 
 module _ (given : List ℕ) (rows : List Row) (p : Proper given rows) where
   -- the reader takes it, and its table has the same meaning

@@ -9,19 +9,20 @@ use lib.Seq.{take-append-seam}
 use Rattle.rules.specs.Data.{Row}
 use Rattle.rules.specs.Modes.{Mode}
 use Rattle.rules.specs.Table.{table}
-use Rattle.rules.specs.Reading.{longest, Outcome, accepted, refused, Judged, Reads, read, Said, Answered}
+use Rattle.rules.specs.Reading.{longest, Outcome, accepted, Judged, Reads, read, Said, says, filled, Answered}
+use Rattle.rules.specs.Reading as Reading
 use Rattle.rules.specs.Proper.{theRules, Proper, proper-rows, Ruled, is-proper}
 use Rattle.rules.specs.Meaning.{meaning}
 use Rattle.rules.specs.Writing.{labelOf, Writes, long-label, no-table, long-written, short-room, stored}
 use Rattle.rules.specs.SameElements.{SameElements, AlikeRead, both-accepted, both-refused, both-at-the-end}
 use Rattle.rules.proofs.Reading.Reader.{judge-complete, reading-unique}
+use Rattle.rules.proofs.Reading.Outcomes.{accepted-same, accepted-refused}
 use Rattle.rules.proofs.Reading.SameElements.{alike-read}
 use Rattle.rules.proofs.Rooms.{table-made}
-use Rattle.rules.proofs.Tables.Judge.{verdict-once}
+use Rattle.rules.proofs.Tables.Judge.{same-rows, verdict-once}
 use Rattle.rules.proofs.Tables.OwnTable.{read-proper, read-ruled}
 use Rattle.rules.proofs.Written.Calls.{equal-writings}
-use Rattle.rules.proofs.Written.Outcome.{same-rows}
-use Rattle.rules.proofs.Written.RoundTrip.{accepted-same, judged-back, equal-bytes}
+use Rattle.rules.proofs.Written.RoundTrip.{judged-back, equal-bytes}
 
 -- ---- of tables
 
@@ -70,6 +71,25 @@ rewritten-label {m} {l} {bytes} {rows} w r =
     let p : Ruled l (take (w .said .size) (w .after)) (proper-rows rows) = is-proper (t .2 ∙ ap table e) (read-proper m l r) in
     w .are ∙ left-label (accepted-short r) p (w .writes) (w .was-written)
 
+-- a label that is accepted, and whose written label is no longer than any may be, is such a label
+pub rewritten : {m : Mode} {l : List ℕ} {rows : List Row} {i : ℕ} → Reads m l (accepted rows i) → length (labelOf l rows) ≤ longest → Rewritten m l (labelOf l rows)
+rewritten {m} {l} {rows} {i} r h =
+    let t = table rows in
+    let c = labelOf l rows in
+    record {
+      room = t;
+      after = filled t t;
+      said = says 0 i (length t);
+      reads = Reading.stored r (omega arith);
+      was-read = refl;
+      out = c;
+      done = filled c c;
+      wrote = says 0 (length c) (length c);
+      writes = stored (accepted-short r) (is-proper (take-append-seam t (drop (length t) t)) (read-proper m l r)) h (omega arith);
+      was-written = refl;
+      are = sym (take-append-seam c (drop (length c) c));
+    }
+
 -- Did the data change? The bytes are equal exactly when the meanings are.
 pub same-meaning : {m m′ : Mode} {l l′ bytes bytes′ : List ℕ} {rows rows′ : List Row} {i i′ : ℕ} → Rewritten m l bytes → Rewritten m′ l′ bytes′ →
     Reads m l (accepted rows i) → Reads m′ l′ (accepted rows′ i′) → (bytes ≡ bytes′) ↔ (meaning l rows ≡ meaning l′ rows′)
@@ -82,9 +102,6 @@ same-meaning {m} {m′} {l} {l′} {rows = rows} {rows′ = rows′} w w′ r r�
 
 -- ---- of labels that differ in layout alone
 
-refused-accepted : {c p i : ℕ} {rows : List Row} → refused c p ≡ accepted rows i → ⊥
-refused-accepted e = let z : _≡_ {A = ℕ} 0 1 = cc in omega arith
-
 -- labels with the same elements mean the same, if they are accepted
 pub relaid-means : {m : Mode} {l l′ ps ps′ : List ℕ} {rows rows′ : List Row} {i i′ : ℕ} → SameElements m l l′ ps ps′ → Reads m l (accepted rows i) → Reads m l′ (accepted rows′ i′) →
     meaning l rows ≡ meaning l′ rows′
@@ -92,8 +109,8 @@ relaid-means {m} {l} {l′} {ps} {ps′} a r r′ = go (alike-read m l l′ a (a
   where
     go : {z z′ : Outcome} {rows rows′ : List Row} {i i′ : ℕ} → AlikeRead l l′ ps ps′ z z′ → z ≡ accepted rows i → z′ ≡ accepted rows′ i′ → meaning l rows ≡ meaning l′ rows′
     go (both-accepted x y s) e e′ = ap (meaning l) (sym (accepted-same e)) ∙ x ∙ ap (meaning l′) (accepted-same e′)
-    go (both-refused s) e e′ = absurd (refused-accepted e)
-    go both-at-the-end e e′ = absurd (refused-accepted e)
+    go (both-refused s) e e′ = absurd (accepted-refused (sym e))
+    go both-at-the-end e e′ = absurd (accepted-refused (sym e))
 
 -- and are written alike: the same answer, and equal rooms
 pub relaid-written : {m : Mode} {l l′ ps ps′ : List ℕ} {rows rows′ : List Row} {i i′ : ℕ} {out done done′ : List ℕ} {s s′ : Said} → SameElements m l l′ ps ps′ →
