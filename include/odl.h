@@ -114,8 +114,8 @@ uint8_t odl_read(const uint8_t *label, size_t label_len,
  * ended by CR LF. The label is the one whose bytes the table's spans show; the
  * table may come from odl_read or from elsewhere, since it is judged first.
  * Codes 0, 1, 11, 12, 13. On 0 and 11 *length and *place are both the length
- * of the written label, else *length is 0. Two labels whose tables are written
- * with 0 mean the same exactly when the written bytes are equal. */
+ * of the written label, else *length is 0. Two tables that are written with 0,
+ * each over its label, mean the same exactly when the written bytes are equal. */
 uint8_t odl_write(const uint8_t *label, size_t label_len,
                   const uint8_t *table, size_t table_len,
                   uint8_t *out, size_t out_len,

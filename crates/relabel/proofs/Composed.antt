@@ -2,16 +2,14 @@
 use Prim.Native.Nat.{ℕ, _-_, _≤_, _<_}
 use native.Mathlib.Omega.{arith}
 use mathlib.Core.Path.{_≡_, refl, sym, ap, subst, _∙_}
-use mathlib.Core.List.{List, _++_}
+use mathlib.Core.List.{List}
 use lib.ListN.{length, take, drop}
 use lib.Seq.{take-all, take-at}
 use Rattle.rules.specs.Data.{Row}
 use Rattle.rules.specs.Modes.{base}
 use Rattle.rules.specs.Table.{table}
-use Rattle.rules.specs.Meaning.{meaning}
-use Rattle.rules.specs.Written.{canonical}
 use Rattle.rules.specs.Proper.{proper-rows, Ruled}
-use Rattle.rules.specs.Reading.{Said, Outcome, accepted, refused, Judged, misspelled, misplaced, ends-early, Reads, too-long, read, Answered, stored, no-room, not-read}
+use Rattle.rules.specs.Reading.{Said, accepted, refused, Reads, too-long, read, Answered, stored, no-room, not-read}
 use Rattle.rules.specs.Writing.{Writes, long-label, no-table, long-written, short-room, stored as put}
 use Rattle.rules.specs.Asked.{says}
 use Rattle.rules.proofs.Tables.Judge.{same-rows, not-both, verdict-once}

@@ -21,5 +21,6 @@ pub mod ElementTwice
 pub mod SameElements
 pub mod Listing
 pub mod ListedOnce
+pub mod ListedBytes
 pub mod AlikeOnce
 pub mod RelaidExample

@@ -13,7 +13,7 @@ use Rattle.rules.specs.Bytes.{ascii, Run}
 use Rattle.rules.specs.Data.{Elem, Row}
 use Rattle.rules.specs.Modes.{Mode}
 use Rattle.rules.specs.Values.{same}
-use Rattle.rules.specs.Elements.{Gap, inSymbol, inWord, setsOff, Spells}
+use Rattle.rules.specs.Elements.{Gap, inSymbol, inWord, setsOff, Spells, Fault}
 use Rattle.rules.specs.Table.{table}
 use Rattle.rules.specs.Reading.{Outcome, accepted, refused, Reads, Said, says}
 use Rattle.rules.specs.Proper.{proper-rows, Ruled}
@@ -21,8 +21,8 @@ use Rattle.rules.specs.Meaning.{foldAll, meaning}
 
 -- ---- the list of elements
 
--- Elements byte for byte: the bytes `w`, with `r` behind them, are one element, whether or not it has a form and keeps its limit. Bytes of
--- no element, and a text or symbol that is broken or left open, are none: they are faults outside the elements.
+-- Elements byte for byte: the bytes `w`, with `r` behind them, are one element, whether or not it has a form and keeps its limit. A byte
+-- that begins no element, and a text, symbol or comment that is broken or left open, are none: they are faults outside the elements.
 pub data OneElement (m : Mode) : List ℕ → List ℕ → Type 0 where
   -- an element as the rules spell it
   spelled : {w r : List ℕ} {e : Elem} {q : ℕ} → Spells m w e q r → OneElement m w r
@@ -31,7 +31,7 @@ pub data OneElement (m : Mode) : List ℕ → List ℕ → Type 0 where
   -- a quoted symbol of any length
   any-symbol : {t r : List ℕ} → Run inSymbol t (byte "'" ∷ r) → OneElement m (byte "'" ∷ (t ++ byte "'" ∷ [])) r
 
--- the word END, in either case
+-- the word END, in either case, wherever it stands
 abbrev pub isEND : List ℕ → Bool
 isEND w = same (foldAll w) (ascii "END")
 
@@ -51,13 +51,20 @@ pub data Listed (m : Mode) : ℕ → List ℕ → List (List ℕ) → List ℕ �
       isEND w ≡ false → Listed m (i + length g + length w) l ws ps t →
       Listed m i (g ++ (w ++ l)) (w ∷ ws) ((i + length g) ∷ ps) t
 
+-- Where something there holds a fault: up to the first END, a fault of code 2 or 3 stands where an element or a comment would. Faults of
+-- code 4 and 5 are at an element. A label has such a fault, or a list (proofs/Reading/ListedOnce).
+pub data FaultOutside (m : Mode) : List ℕ → Type 0 where
+  fault-here : {g r : List ℕ} {c : ℕ} → Gap m g r → Fault m r c → c ≤ 3 → FaultOutside m (g ++ r)
+  fault-later : {g w l : List ℕ} → Gap m g (w ++ l) → OneElement m w l → isEND w ≡ false → FaultOutside m l →
+      FaultOutside m (g ++ (w ++ l))
+
 -- Two labels with the same list of elements, byte for byte, through the first END or to the input's end, and END set off in both or lacking
 -- in both, or in both not set off. The elements start at these places in the one, and at those in the other.
 pub record SameElements (m : Mode) (l l′ : List ℕ) (ps ps′ : List ℕ) : Type 0 where
   pub elements : List (List ℕ)
   pub through : Through
-  pub one : Listed m 0 l elements ps through
-  pub other : Listed m 0 l′ elements ps′ through
+  pub in-one : Listed m 0 l elements ps through
+  pub in-other : Listed m 0 l′ elements ps′ through
 
 -- ---- read alike
 
@@ -87,9 +94,11 @@ pub data AlikeRead (l l′ ps ps′ : List ℕ) : Outcome → Outcome → Type 0
 abbrev pub Ample : Mode → List ℕ → List ℕ → Type 0
 Ample m l room = (rows : List Row) (i : ℕ) → Reads m l (accepted rows i) → length (table rows) ≤ length room
 
--- Both accepted or both refused, of two calls: what they say, and what their rooms hold then.
+-- Both accepted or both refused, of two calls: what they say, and what their rooms hold where a table is stored. That a refusal leaves its
+-- room as it was is said by `Answered`.
 pub data AlikeSaid (l l′ ps ps′ : List ℕ) : Said → List ℕ → Said → List ℕ → Type 0 where
-  -- 0 in both: the tables that stand in the rooms, each proper over its label, have equal meaning and equal length; past END
+  -- 0 in both: the tables that stand in the rooms, each proper over its label, have equal meaning and equal length; each
+  -- place is the one past END
   both-stored : (rest rest′ : List ℕ) {t t′ : List ℕ} {rows rows′ : List Row} {p p′ : ℕ} → Ruled l t (proper-rows rows) →
       Ruled l′ t′ (proper-rows rows′) → meaning l rows ≡ meaning l′ rows′ → length t ≡ length t′ → LastPlace ps ps′ p p′ →
       AlikeSaid l l′ ps ps′ (says 0 (p + 3) (length t)) (t ++ rest) (says 0 (p′ + 3) (length t′)) (t′ ++ rest′)

@@ -67,10 +67,10 @@ same-refusal {l} {c} {c′} {p} {p′} e f = subst₂ (λ (x y : ℕ). Once l (r
 
 module _ {m : Mode} {l l′ ps ps′ : List ℕ} (a : SameElements m l l′ ps ps′) where
   also-here : {p p′ p₁ p₂ : ℕ} → p ≡ p′ → SamePlace ps ps′ p p₁ → SamePlace ps ps′ p′ p₂ → p₁ ≡ p₂
-  also-here {p₂ = p₂} e s s′ = one-place (a .one) s (subst (λ (n : ℕ). SamePlace ps ps′ n p₂) (sym e) s′)
+  also-here {p₂ = p₂} e s s′ = one-place (a .in-one) s (subst (λ (n : ℕ). SamePlace ps ps′ n p₂) (sym e) s′)
 
   no-end : {p p₁ : ℕ} → p ≡ length l → SamePlace ps ps′ p p₁ → ⊥
-  no-end e s = omega (arith, within-bytes (a .one) s .1)
+  no-end e s = omega (arith, within-bytes (a .in-one) s .1)
 
   once : {z z′ z₁ z₂ : Outcome} → z ≡ z′ → AlikeRead l l′ ps ps′ z z₁ → AlikeRead l l′ ps ps′ z′ z₂ → Once l′ z₁ z₂
   once e (both-accepted {rows′ = qs} {p′ = p₁} x y s) (both-accepted {rows′ = qs′} {p′ = p₂} x′ y′ s′) =

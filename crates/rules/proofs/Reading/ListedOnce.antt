@@ -12,12 +12,12 @@ use Rattle.rules.specs.Bytes.{front, Run}
 use Rattle.rules.specs.Modes.{Mode}
 use Rattle.rules.specs.Data.{Elem}
 use Rattle.rules.specs.Elements.{setsOff, inText, inSymbol, inWord, Gap, Spells, word, sign, one-star, two-stars, one-slash, quoted-text, quoted-symbol, Fault}
-use Rattle.rules.specs.SameElements.{OneElement, spelled, any-word, any-symbol, isEND, Through, first-END, Listed, to-the-end, through-END, and-then}
+use Rattle.rules.specs.SameElements.{OneElement, spelled, any-word, any-symbol, isEND, Through, first-END, Listed, to-the-end, through-END, and-then, FaultOutside, fault-here, fault-later}
 use Rattle.rules.proofs.Words.Runs.{Split, span, run-span, tail}
 use Rattle.rules.proofs.Elements.Begin.{Begin, a-word, a-blank, a-star, a-slash, a-quote, an-apostrophe, nothing, a-sign, begin, sign-begins}
 use Rattle.rules.proofs.Elements.Next.{Found, found, faulty, none-left, nextElement, finds, faults, ends, next-complete}
 use Rattle.rules.proofs.Reading.ElementTwice as Twice
-use Rattle.rules.proofs.Reading.Listing.{Spoilt, spoilt-here, spoilt-later, Cover, listed, spoilt, cover}
+use Rattle.rules.proofs.Reading.Listing.{Cover, listed, spoilt, cover}
 
 -- ---- the element at the front of the bytes, and what is behind it, as a function
 
@@ -148,22 +148,22 @@ module _ (m : Mode) where
       let k = subst Sound (sym (a .is) ∙ ap (nextElement m) e ∙ next-complete m (faults y f)) (a .sound) in
       omega (arith, k)
 
-  unspoilt : {i : ℕ} {l l′ ps : List ℕ} {ws : List (List ℕ)} {t : Through} → Listed m i l ws ps t → Spoilt m l′ → l ≡ l′ → ⊥
-  unspoilt (to-the-end x) (spoilt-here y f n) e = Option·some-ne-none _ (sym (ap gapOf (sym (at-end x) ∙ ap (nextElement m) e ∙ next-complete m (faults y f))))
-  unspoilt (to-the-end x) (spoilt-later y s h b) e = none-there x y s e
-  unspoilt (through-END x s k o) (spoilt-here y f n) e = no-fault x s y f n e
-  unspoilt (through-END x s k o) (spoilt-later y s′ h b) e = true≢false (sym k ∙ ap isEND (once x s y s′ e .1) ∙ h)
-  unspoilt (and-then x s k a) (spoilt-here y f n) e = no-fault x s y f n e
-  unspoilt (and-then x s k a) (spoilt-later y s′ h b) e = unspoilt a b (once x s y s′ e .2)
+  no-fault-outside : {i : ℕ} {l l′ ps : List ℕ} {ws : List (List ℕ)} {t : Through} → Listed m i l ws ps t → FaultOutside m l′ → l ≡ l′ → ⊥
+  no-fault-outside (to-the-end x) (fault-here y f n) e = Option·some-ne-none _ (sym (ap gapOf (sym (at-end x) ∙ ap (nextElement m) e ∙ next-complete m (faults y f))))
+  no-fault-outside (to-the-end x) (fault-later y s h b) e = none-there x y s e
+  no-fault-outside (through-END x s k o) (fault-here y f n) e = no-fault x s y f n e
+  no-fault-outside (through-END x s k o) (fault-later y s′ h b) e = true≢false (sym k ∙ ap isEND (once x s y s′ e .1) ∙ h)
+  no-fault-outside (and-then x s k a) (fault-here y f n) e = no-fault x s y f n e
+  no-fault-outside (and-then x s k a) (fault-later y s′ h b) e = no-fault-outside a b (once x s y s′ e .2)
 
   -- a label whose elements are set out has no fault outside them
-  pub listed-unspoilt : {i : ℕ} {l ps : List ℕ} {ws : List (List ℕ)} {t : Through} → Listed m i l ws ps t → Spoilt m l → ⊥
-  listed-unspoilt a b = unspoilt a b refl
+  pub listed-no-fault : {i : ℕ} {l ps : List ℕ} {ws : List (List ℕ)} {t : Through} → Listed m i l ws ps t → FaultOutside m l → ⊥
+  listed-no-fault a b = no-fault-outside a b refl
 
   -- a label has a list of elements exactly when no fault stands outside them, up to its first END
-  pub listed-exactly : (l : List ℕ) → HasList m l ↔ (Spoilt m l → ⊥)
-  listed-exactly l = (λ h. listed-unspoilt (h .3), λ h. go h (cover m l))
+  pub listed-exactly : (l : List ℕ) → HasList m l ↔ (FaultOutside m l → ⊥)
+  listed-exactly l = (λ h. listed-no-fault (h .3), λ h. go h (cover m l))
     where
-      go : (Spoilt m l → ⊥) → Cover m 0 l → HasList m l
+      go : (FaultOutside m l → ⊥) → Cover m 0 l → HasList m l
       go h (listed x) = (_, _, _, x)
       go h (spoilt x) = absurd (h x)

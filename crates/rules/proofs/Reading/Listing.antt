@@ -12,7 +12,7 @@ use Rattle.rules.specs.Modes.{Mode}
 use Rattle.rules.specs.Grammar.{strict}
 use Rattle.rules.specs.Elements.{setsOff, Gap, Cut, none-more, next, Spells, Breaks, open-at-end, open-at, foreign, Fault, no-element, no-form, past-limit, broken-text, broken-symbol, broken-comment, empty-symbol, long-symbol}
 use Rattle.rules.specs.Reading.{accepted, Judged, follows}
-use Rattle.rules.specs.SameElements.{OneElement, spelled, any-word, any-symbol, isEND, Through, first-END, Listed, to-the-end, through-END, and-then, SameElements}
+use Rattle.rules.specs.SameElements.{OneElement, spelled, any-word, any-symbol, isEND, Through, first-END, Listed, to-the-end, through-END, and-then, FaultOutside, fault-here, fault-later, SameElements}
 use Rattle.rules.proofs.Grammar.Machine.{State, goes, step}
 use Rattle.rules.proofs.Grammar.Run.{Reach, here, by-step}
 use Rattle.rules.proofs.Grammar.Complete.{refuses-goes, complete}
@@ -31,18 +31,12 @@ breaks-code (foreign h) = omega arith
 module _ (m : Mode) where
   -- two labels with equal lists that end alike have the same elements
   pub listed-same : {l l′ ps ps′ : List ℕ} {ws : List (List ℕ)} {t : Through} → Listed m 0 l ws ps t → Listed m 0 l′ ws ps′ t → SameElements m l l′ ps ps′
-  listed-same {ws = ws} {t = t} a b = record { elements = ws; through = t; one = a; other = b }
+  listed-same {ws = ws} {t = t} a b = record { elements = ws; through = t; in-one = a; in-other = b }
 
-  -- A fault stands outside the elements, up to the first END: behind elements other than END, and a gap, a fault of code 2 or 3. Those of 4 and 5 are at
-  -- an element.
-  pub data Spoilt : List ℕ → Type 0 where
-    spoilt-here : {g r : List ℕ} {c : ℕ} → Gap m g r → Fault m r c → c ≤ 3 → Spoilt (g ++ r)
-    spoilt-later : {g w l : List ℕ} → Gap m g (w ++ l) → OneElement m w l → isEND w ≡ false → Spoilt l → Spoilt (g ++ (w ++ l))
-
-  -- a list of elements, or such a fault
+  -- a list of elements, or a fault outside the elements
   pub data Cover (i : ℕ) (l : List ℕ) : Type 0 where
     listed : {ws : List (List ℕ)} {ps : List ℕ} {t : Through} → Listed m i l ws ps t → Cover i l
-    spoilt : Spoilt l → Cover i l
+    spoilt : FaultOutside m l → Cover i l
 
   -- a fault is an element's, or of code 2 or 3
   data Whose : List ℕ → Type 0 where
@@ -67,7 +61,7 @@ module _ (m : Mode) where
       go : (t : Bool) → isEND w ≡ t → Cover (i + length g + length w) r → Cover i (g ++ (w ++ r))
       go true h k = listed (through-END gap s h refl)
       go false h (listed k) = listed (and-then gap s h k)
-      go false h (spoilt k) = spoilt (spoilt-later gap s h k)
+      go false h (spoilt k) = spoilt (fault-later gap s h k)
 
   covers : (k i : ℕ) (l : List ℕ) → length l < k → Cover i l
   covers zero i l h = absurd (omega arith)
@@ -75,7 +69,7 @@ module _ (m : Mode) where
     where
       at-fault : {g r : List ℕ} → length (g ++ r) < suc k → ((j : ℕ) (r : List ℕ) → length r < k → Cover j r) → Gap m g r → Whose r → Cover i (g ++ r)
       at-fault {g} n ih gap (an-element's {w} {r} s p) = one-more gap s (ih _ r (omega (arith, length-append g (w ++ r), length-append w r)))
-      at-fault n ih gap (no-element's f c) = spoilt (spoilt-here gap f c)
+      at-fault n ih gap (no-element's f c) = spoilt (fault-here gap f c)
 
       go : {l : List ℕ} {f : _} → length l < suc k → ((j : ℕ) (r : List ℕ) → length r < k → Cover j r) → NextIs m l f → Cover i l
       go n ih (finds {g} {w} {r} gap s) = one-more gap (spelled s) (ih _ r (omega (arith, spells-some s, length-append g (w ++ r), length-append w r)))

@@ -16,7 +16,7 @@ abbrev plainly : List ℕ
 plainly = ascii "A=1 END"
 
 abbrev remarked : List ℕ
-remarked = ascii "/* x */ y\n A =1\n\tEND &"
+remarked = ascii "/* x */ y\n A =1\n\tEND\r\n&"
 
 abbrev elements : List (List ℕ)
 elements = ascii "A" ∷ ascii "=" ∷ ascii "1" ∷ ascii "END" ∷ []
@@ -31,14 +31,14 @@ module _ (m : Mode) where
 
   remarked-listed : Listed m 0 remarked elements (11 ∷ 13 ∷ 14 ∷ 17 ∷ []) (first-END true)
   remarked-listed =
-      and-then {g = ascii "/* x */ y\n "} {w = ascii "A"} {l = ascii " =1\n\tEND &"}
-      (remark {c = ascii "/* x */ y"} {g = ascii "\n "} {r = ascii "A =1\n\tEND &"}
-      (comment {c = ascii " x "} {i = ascii " y"} {r = ascii "\n A =1\n\tEND &"} (goes-on refl (goes-on refl (goes-on refl (stops refl)))) (goes-on refl (goes-on refl (stops refl))))
+      and-then {g = ascii "/* x */ y\n "} {w = ascii "A"} {l = ascii " =1\n\tEND\r\n&"}
+      (remark {c = ascii "/* x */ y"} {g = ascii "\n "} {r = ascii "A =1\n\tEND\r\n&"}
+      (comment {c = ascii " x "} {i = ascii " y"} {r = ascii "\n A =1\n\tEND\r\n&"} (goes-on refl (goes-on refl (goes-on refl (stops refl)))) (goes-on refl (goes-on refl (stops refl))))
       (blank refl (blank refl no-gap)))
       (any-word (goes-on refl (stops refl))) refl
-      (and-then {g = ascii " "} {w = ascii "="} {l = ascii "1\n\tEND &"} (blank refl no-gap) (spelled (sign refl)) refl
-      (and-then {g = []} {w = ascii "1"} {l = ascii "\n\tEND &"} no-gap (any-word (goes-on refl (stops refl))) refl
-      (through-END {g = ascii "\n\t"} {w = ascii "END"} {r = ascii " &"} (blank refl (blank refl no-gap)) (any-word (goes-on refl (goes-on refl (goes-on refl (stops refl))))) refl refl)))
+      (and-then {g = ascii " "} {w = ascii "="} {l = ascii "1\n\tEND\r\n&"} (blank refl no-gap) (spelled (sign refl)) refl
+      (and-then {g = []} {w = ascii "1"} {l = ascii "\n\tEND\r\n&"} no-gap (any-word (goes-on refl (stops refl))) refl
+      (through-END {g = ascii "\n\t"} {w = ascii "END"} {r = ascii "\r\n&"} (blank refl (blank refl no-gap)) (any-word (goes-on refl (goes-on refl (goes-on refl (stops refl))))) refl refl)))
 
   -- the two are read alike
   pub read-alike : {z z′ : Outcome} → Judged m plainly z → Judged m remarked z′ → AlikeRead plainly remarked (0 ∷ 1 ∷ 2 ∷ 4 ∷ []) (11 ∷ 13 ∷ 14 ∷ 17 ∷ []) z z′

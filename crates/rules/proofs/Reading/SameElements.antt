@@ -23,15 +23,17 @@ use Rattle.rules.proofs.Reading.EndWord.{end-word-size}
 use Rattle.rules.proofs.Reading.Stretches.{Bare, bare, stretch-is}
 
 -- the bytes from an offset
-record From (l : List ℕ) (i : ℕ) (r : List ℕ) : Type 0 where
-  before : List ℕ
-  is : l ≡ before ++ r
-  size : i ≡ length before
+pub record From (l : List ℕ) (i : ℕ) (r : List ℕ) : Type 0 where
+  pub before : List ℕ
+  pub is : l ≡ before ++ r
+  pub size : i ≡ length before
 
-from-start : (l : List ℕ) → From l 0 l
+-- from the start
+pub from-start : (l : List ℕ) → From l 0 l
 from-start l = record { before = []; is = refl; size = refl }
 
-onward : {l : List ℕ} {i : ℕ} (g w r : List ℕ) → From l i (g ++ (w ++ r)) → From l (i + length g + length w) r
+-- behind a gap and an element
+pub onward : {l : List ℕ} {i : ℕ} (g w r : List ℕ) → From l i (g ++ (w ++ r)) → From l (i + length g + length w) r
 onward g w r f =
     record {
       before = f .before ++ (g ++ w);
@@ -169,7 +171,7 @@ module _ (m : Mode) (l l′ : List ℕ) where
 
   module _ {ps ps′ : List ℕ} (a : SameElements m l l′ ps ps′) where
     start : Read at-statement at-statement outside 0 0 l l′ ps ps′
-    start = same (plain at-statement tt) refl refl (from-start l) (from-start l′) (a .one) (a .other)
+    start = same (plain at-statement tt) refl refl (from-start l) (from-start l′) (a .in-one) (a .in-other)
 
     -- of labels of any length
     pub alike-judged : {z z′ : Outcome} → Judged m l z → Judged m l′ z′ → AlikeRead l l′ ps ps′ z z′

@@ -51,44 +51,64 @@ pub record Rewritten (m : Mode) (l bytes : List ℕ) : Type 0 where
   pub was-written : wrote .code ≡ 0
   pub are : bytes ≡ take (wrote .size) done
 
--- a writing of the reader's own table leaves its label
-left-label : {l lent out done : List ℕ} {s : Said} {rows : List Row} → length l ≤ longest → Ruled l lent (proper-rows rows) → Writes l lent out s done → s .code ≡ 0 →
-    take (s .size) done ≡ labelOf l rows
-left-label short p (long-label h) z = absurd (omega arith)
-left-label short p (no-table h v) z = absurd (omega arith)
-left-label short p (long-written h v a) z = absurd (omega arith)
-left-label short p (short-room h v a b) z = absurd (omega arith)
-left-label {l} {lent} {out} short p (stored {rows = qs} h v a b) z =
-    take-append-seam (labelOf l qs) (drop (length (labelOf l qs)) out) ∙ ap (labelOf l) (same-rows (verdict-once l short lent v p))
+-- what a writing with code 0 leaves, of the table that has these rows
+record Left (l bytes : List ℕ) (rows : List Row) : Type 0 where
+  short : length (labelOf l rows) ≤ longest
+  is : bytes ≡ labelOf l rows
+
+left : {l lent out done : List ℕ} {s : Said} {rows : List Row} → length l ≤ longest → Ruled l lent (proper-rows rows) → Writes l lent out s done → s .code ≡ 0 → Left l (take (s .size) done) rows
+left short p (long-label h) z = absurd (omega arith)
+left short p (no-table h v) z = absurd (omega arith)
+left short p (long-written h v a) z = absurd (omega arith)
+left short p (short-room h v a b) z = absurd (omega arith)
+left {l} {lent} {out} short p (stored {rows = qs} h v a b) z =
+    let e = same-rows (verdict-once l short lent v p) in
+    record {
+      short = subst (λ (rs : List Row). length (labelOf l rs) ≤ longest) e a;
+      is = take-append-seam (labelOf l qs) (drop (length (labelOf l qs)) out) ∙ ap (labelOf l) e;
+    }
 
 accepted-short : {m : Mode} {l : List ℕ} {rows : List Row} {i : ℕ} → Reads m l (accepted rows i) → length l ≤ longest
 accepted-short (read h j) = h
 
-rewritten-label : {m : Mode} {l bytes : List ℕ} {rows : List Row} {i : ℕ} → Rewritten m l bytes → Reads m l (accepted rows i) → bytes ≡ labelOf l rows
-rewritten-label {m} {l} {bytes} {rows} w r =
-    let t = table-made (w .reads) (w .was-read) in
-    let e : t .0 ≡ rows = accepted-same (reading-unique m (t .1) r) in
-    let p : Ruled l (take (w .said .size) (w .after)) (proper-rows rows) = is-proper (t .2 ∙ ap table e) (read-proper m l r) in
-    w .are ∙ left-label (accepted-short r) p (w .writes) (w .was-written)
+-- Such a label is accepted, its written label is no longer than any may be, and the bytes are that label.
+pub record Canonical (m : Mode) (l bytes : List ℕ) : Type 0 where
+  pub rows : List Row
+  pub past : ℕ
+  pub reads : Reads m l (accepted rows past)
+  pub short : length (labelOf l rows) ≤ longest
+  pub are : bytes ≡ labelOf l rows
 
--- a label that is accepted, and whose written label is no longer than any may be, is such a label
-pub rewritten : {m : Mode} {l : List ℕ} {rows : List Row} {i : ℕ} → Reads m l (accepted rows i) → length (labelOf l rows) ≤ longest → Rewritten m l (labelOf l rows)
-rewritten {m} {l} {rows} {i} r h =
-    let t = table rows in
-    let c = labelOf l rows in
+pub rewritten-canonical : {m : Mode} {l bytes : List ℕ} → Rewritten m l bytes → Canonical m l bytes
+rewritten-canonical {m} {l} w =
+    let t = table-made (w .reads) (w .was-read) in
+    let k = left (accepted-short (t .1)) (is-proper (t .2) (read-proper m l (t .1))) (w .writes) (w .was-written) in
+    record { rows = t .0; past = w .said .place; reads = t .1; short = k .short; are = w .are ∙ k .is }
+
+-- and every such label is one, whatever the rooms are, if they are long enough
+pub rewritten : {m : Mode} {l bytes : List ℕ} (c : Canonical m l bytes) (room out : List ℕ) → length (table (c .rows)) ≤ length room → length (labelOf l (c .rows)) ≤ length out → Rewritten m l bytes
+rewritten {m} {l} c room out h k =
+    let t = table (c .rows) in
+    let w = labelOf l (c .rows) in
     record {
-      room = t;
-      after = filled t t;
-      said = says 0 i (length t);
-      reads = Reading.stored r (omega arith);
+      room = room;
+      after = filled t room;
+      said = says 0 (c .past) (length t);
+      reads = Reading.stored (c .reads) h;
       was-read = refl;
-      out = c;
-      done = filled c c;
-      wrote = says 0 (length c) (length c);
-      writes = stored (accepted-short r) (is-proper (take-append-seam t (drop (length t) t)) (read-proper m l r)) h (omega arith);
+      out = out;
+      done = filled w out;
+      wrote = says 0 (length w) (length w);
+      writes = stored (accepted-short (c .reads)) (is-proper (take-append-seam t (drop (length t) room)) (read-proper m l (c .reads))) (c .short) k;
       was-written = refl;
-      are = sym (take-append-seam c (drop (length c) c));
+      are = c .are ∙ sym (take-append-seam w (drop (length w) out));
     }
+
+-- the bytes are the label of any rows that the reading gives
+rewritten-label : {m : Mode} {l bytes : List ℕ} {rows : List Row} {i : ℕ} → Rewritten m l bytes → Reads m l (accepted rows i) → bytes ≡ labelOf l rows
+rewritten-label {m} {l} w r =
+    let c = rewritten-canonical w in
+    c .are ∙ ap (labelOf l) (accepted-same (reading-unique m (c .reads) r))
 
 -- Did the data change? The bytes are equal exactly when the meanings are.
 pub same-meaning : {m m′ : Mode} {l l′ bytes bytes′ : List ℕ} {rows rows′ : List Row} {i i′ : ℕ} → Rewritten m l bytes → Rewritten m′ l′ bytes′ →
