@@ -174,57 +174,59 @@ static int refused(const char *file, uint8_t code, size_t place) {
     return EXIT_FAILURE;
 }
 
+/* Reads the file's label into the table. */
+static int read_label(const char *name) {
+    FILE *file = fopen(name, "rb");
+    if (file == NULL) {
+        perror(name);
+        return EXIT_FAILURE;
+    }
+    label_len = fread(label, 1, sizeof label, file);
+    fclose(file);
+    size_t place;
+    uint8_t code = odl_read(label, label_len, table, sizeof table, &place, &table_len);
+    return code == ODL_ACCEPTED ? EXIT_SUCCESS : refused(name, code, place);
+}
+
+/* Prints the value of the attribute of this name outside all blocks. */
+static int print_attribute(const char *name) {
+    size_t place, at;
+    uint8_t code = odl_find(label, label_len, table, table_len, (const uint8_t *)name,
+                            strlen(name), 0, &place, &at);
+    if (code != ODL_ACCEPTED) {
+        return refused(name, code, place);
+    }
+    print_value(at + row_length(at));
+    printf("\n");
+    return EXIT_SUCCESS;
+}
+
+/* Prints name and value of each attribute outside all blocks. */
+static int print_attributes(void) {
+    size_t depth = 0;
+    for (size_t row = 0; row < table_len; row += row_length(row)) {
+        uint8_t kind = table[row];
+        if (kind == ODL_OBJECT || kind == ODL_GROUP) {
+            depth++;
+        } else if (kind == ODL_END_OBJECT || kind == ODL_END_GROUP) {
+            depth--;
+        } else if (kind == ODL_ATTRIBUTE && depth == 0) {
+            print_name(row);
+            printf(" = ");
+            print_value(row + row_length(row));
+            printf("\n");
+        }
+    }
+    return EXIT_SUCCESS;
+}
+
 int main(int count, char **words) {
     if (count < 2 || count > 3) {
         fprintf(stderr, "usage: attributes LABEL [NAME]\n");
         return EXIT_FAILURE;
     }
-    FILE *file = fopen(words[1], "rb");
-    if (file == NULL) {
-        perror(words[1]);
+    if (read_label(words[1]) != EXIT_SUCCESS) {
         return EXIT_FAILURE;
     }
-    label_len = fread(label, 1, sizeof label, file);
-    fclose(file);
-
-    size_t place;
-    uint8_t code = odl_read(label, label_len, table, sizeof table, &place, &table_len);
-    if (code != ODL_ACCEPTED) {
-        return refused(words[1], code, place);
-    }
-    if (count == 3) {
-        size_t at;
-        code = odl_find(label, label_len, table, table_len, (const uint8_t *)words[2],
-                        strlen(words[2]), 0, &place, &at);
-        if (code != ODL_ACCEPTED) {
-            return refused(words[2], code, place);
-        }
-        print_value(at + row_length(at));
-        printf("\n");
-        return EXIT_SUCCESS;
-    }
-    size_t depth = 0;
-    for (size_t row = 0; row < table_len; row += row_length(row)) {
-        switch (table[row]) {
-        case ODL_OBJECT:
-        case ODL_GROUP:
-            depth++;
-            break;
-        case ODL_END_OBJECT:
-        case ODL_END_GROUP:
-            depth--;
-            break;
-        case ODL_ATTRIBUTE:
-            if (depth == 0) {
-                print_name(row);
-                printf(" = ");
-                print_value(row + row_length(row));
-                printf("\n");
-            }
-            break;
-        default:
-            break;
-        }
-    }
-    return EXIT_SUCCESS;
+    return count == 3 ? print_attribute(words[2]) : print_attributes();
 }

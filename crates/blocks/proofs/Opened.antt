@@ -8,14 +8,16 @@ use lib.ListN.{length, getD, set}
 use lib.Seq.{getD-set-same, getD-set-other}
 use borrow.Author.Needs.{needs}
 use borrow.Author.Tests.{eq-eqb, ne-eqb}
+use Rattle.rules.specs.Table.{openKind}
+use Rattle.rows.specs.Rows.{kindOf}
 use Rattle.rows.specs.declared.Kind as kind
 use Rattle.rows.specs.declared.Kind.the-variants as kinds
-use Rattle.blocks.specs.Stack.{Block, block, blocksIn, rest, many, topOf, topIn, startOf, endOf, kindAt, kindCode, pushOn, popOff}
+use Rattle.blocks.specs.Stack.{Block, block, blocksIn, rest, many, topOf, topIn, startOf, endOf, kindAt, pushOn, popOff}
 use Rattle.blocks.specs.declared.Blocks.{Blocks}
 use Rattle.blocks.specs.declared.Top as top
 use Rattle.blocks.specs.declared.Top.the-variants as tops
 
-kind-back : (k : kind.Kind) → kindAt (kindCode k) ≡ k
+kind-back : (k : kind.Kind) → kindAt (openKind (kindOf k)) ≡ k
 kind-back kinds.Object = refl
 kind-back kinds.Group = refl
 
@@ -40,7 +42,7 @@ module _ (s e k : List ℕ) (d a b x : ℕ) where
       rw (add-one, blocksIn, getD-set-same s d a 0 hs, getD-set-same e d b 0 he, getD-set-same k d x 0 hk)
       (ap (λ (l : List Block). block (kindAt x) a b ∷ l) (below d (omega arith)))
 
-pub pushed : (s e k : List ℕ) (d a b x a′ b′ : ℕ) (q : kind.Kind) → a ≡ a′ → b ≡ b′ → x ≡ kindCode q → d < length s → d < length e → d < length k →
+pub pushed : (s e k : List ℕ) (d a b x a′ b′ : ℕ) (q : kind.Kind) → a ≡ a′ → b ≡ b′ → x ≡ openKind (kindOf q) → d < length s → d < length e → d < length k →
     blocksIn (set s d a) (set e d b) (set k d x) (d + 1) ≡ block q a′ b′ ∷ blocksIn s e k d
 pushed s e k d a b x a′ b′ q ea eb ex hs he hk =
     pushes s e k d a b x hs he hk ∙ rw (ea, eb, ex) (ap (λ (j : kind.Kind). block j a′ b′ ∷ blocksIn s e k d) (kind-back q))
@@ -50,7 +52,7 @@ unfolding blocksIn
 popped s e k zero h = absurd (omega arith)
 popped s e k (suc n) h = let q : suc n - 1 ≡ n = omega arith in rw q
 
-pub pushed-on : (b : Blocks) (k : kind.Kind) (x y x′ y′ c : ℕ) → x′ ≡ x → y′ ≡ y → c ≡ kindCode k →
+pub pushed-on : (b : Blocks) (k : kind.Kind) (x y x′ y′ c : ℕ) → x′ ≡ x → y′ ≡ y → c ≡ openKind (kindOf k) →
     record { starts = set (b .starts) (b .depth) x′; ends = set (b .ends) (b .depth) y′; kinds = set (b .kinds) (b .depth) c; depth = b .depth + 1 } ≡ pushOn b k x y
 pushed-on b k x y x′ y′ c p q e = rw (p, q, e)
 

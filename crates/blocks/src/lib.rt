@@ -1,15 +1,20 @@
-// The open blocks in arrays, by value: only what opens or closes a block is handed them. The reader, the table's check and the writer share them.
+// The open blocks in arrays, by value: only what opens or closes a block is handed them. The reader, the table's check and the writer
+// share them.
+use rows::DEEPEST;
 use rows::Kind;
+use rows::OPEN_GROUP;
+use rows::open_kind;
 ghost use mathlib.Core.Path.{_≡_};
 ghost use mathlib.Core.List.{[], _∷_};
 ghost use Prim.Native.Nat.{_+_, _<_, _≤_};
-ghost use Rattle.blocks.specs.Stack.{block, kindCode, kindAt, topIn, topOf, startOf, endOf, rest, blocksOf, noBlocks, pushOn, popOff};
+ghost use Rattle.blocks.specs.Stack.{block, kindAt, topIn, topOf, startOf, endOf, rest, blocksOf, noBlocks, pushOn, popOff};
+ghost use Rattle.rows.specs.Rows.{deepest};
 
 // The open blocks: where the name of each starts and ends, and its kind.
 pub struct Blocks {
-    pub starts: [u16; 80],
-    pub ends: [u16; 80],
-    pub kinds: [u8; 80],
+    pub starts: [u16; DEEPEST],
+    pub ends: [u16; DEEPEST],
+    pub kinds: [u8; DEEPEST],
     pub depth: usize,
 }
 
@@ -24,26 +29,17 @@ pub fn no_blocks() -> Blocks
     ensures { λ r. ⌜ (blocksOf r ≡ []) × (r .depth ≡ 0) × (r ≡ noBlocks) ⌝ }
 {
     Blocks {
-        starts: [0; 80],
-        ends: [0; 80],
-        kinds: [0; 80],
+        starts: [0; DEEPEST],
+        ends: [0; DEEPEST],
+        kinds: [0; DEEPEST],
         depth: 0,
-    }
-}
-
-fn kind_code(k: Kind) -> u8
-    ensures { λ r. ⌜ r ≡ kindCode k ⌝ }
-{
-    match k {
-        Kind::Object => 3,
-        Kind::Group => 5,
     }
 }
 
 fn top_kind(n: u8) -> Top
     ensures { λ r. ⌜ r ≡ topIn (kindAt n) ⌝ }
 {
-    if n == 5 {
+    if n == OPEN_GROUP {
         return Top::Group;
     }
     Top::Object
@@ -63,14 +59,14 @@ fn large(a: u16) -> usize
 }
 
 pub fn push(b: Blocks, k: Kind, x: usize, y: usize) -> Blocks
-    requires { ⌜ (b .depth < 80) × (x < 65536) × (y < 65536) ⌝ }
+    requires { ⌜ (b .depth < deepest) × (x < 65536) × (y < 65536) ⌝ }
     ensures { λ r. ⌜ (blocksOf r ≡ block k x y ∷ blocksOf b) × (r .depth ≡ b .depth + 1) × (r ≡ pushOn b k x y) ⌝ }
 {
     let mut r = b;
     let d = b.depth;
     r.starts[d] = small(x);
     r.ends[d] = small(y);
-    r.kinds[d] = kind_code(k);
+    r.kinds[d] = open_kind(k);
     r.depth = d + 1;
     r
 }
@@ -86,7 +82,7 @@ pub fn pop(b: Blocks) -> Blocks
 }
 
 pub fn top_of(b: Blocks) -> Top
-    requires { ⌜ b .depth ≤ 80 ⌝ }
+    requires { ⌜ b .depth ≤ deepest ⌝ }
     ensures { λ r. ⌜ r ≡ topOf (blocksOf b) ⌝ }
 {
     let d = b.depth;
@@ -98,7 +94,7 @@ pub fn top_of(b: Blocks) -> Top
 
 // Where the innermost block's name starts, and 0 outside all blocks.
 pub fn name_start(b: Blocks) -> usize
-    requires { ⌜ b .depth ≤ 80 ⌝ }
+    requires { ⌜ b .depth ≤ deepest ⌝ }
     ensures { λ r. ⌜ r ≡ startOf (blocksOf b) ⌝ }
 {
     let d = b.depth;
@@ -110,7 +106,7 @@ pub fn name_start(b: Blocks) -> usize
 
 // Where it ends.
 pub fn name_end(b: Blocks) -> usize
-    requires { ⌜ b .depth ≤ 80 ⌝ }
+    requires { ⌜ b .depth ≤ deepest ⌝ }
     ensures { λ r. ⌜ r ≡ endOf (blocksOf b) ⌝ }
 {
     let d = b.depth;

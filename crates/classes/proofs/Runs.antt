@@ -10,8 +10,9 @@ use borrow.Author.Tests.{not-true, not-false}
 use lib.Dec.{eqb, ltb}
 use lib.ListN.{length, getD, take, drop, take-append-drop, drop-of-length-le}
 use lib.Seq.{drop-cons, drop-drop, getD-drop}
-use Rattle.rules.specs.Bytes.{between, digit, alnum, lineEnd, wordByte, front, Run, stops, goes-on}
+use Rattle.rules.specs.Bytes.{digit, alnum, lineEnd, wordByte, front, Run, stops, goes-on}
 use Rattle.rules.specs.Elements.{inWord, inText, inSymbol, inComment, inLine}
+use Rattle.rules.proofs.Machine.Checks.{textByte, symbolByte}
 use Rattle.classes.specs.Places.{part, EndsAt, ByteAt}
 
 abbrev Ends : (List ℕ → Bool) → List ℕ → ℕ → ℕ → Type 0
@@ -81,9 +82,6 @@ word-stop = byte-stop wordByte
 pub word-last : (l : List ℕ) (at i : ℕ) → Passing inWord l at i → length l ≤ i → EndsAt inWord l at i
 word-last = byte-end wordByte
 
-abbrev textByte : ℕ → Bool
-textByte b = ltb b 128 && not (eqb b 34)
-
 pub text-turn : (l : List ℕ) (at i : ℕ) (t : Bool) → Passing inText l at i → i < length l → t ≡ textByte (getD l i 0) → not t ≡ false → Passing inText l at (i + 1)
 text-turn = byte-turn textByte
 
@@ -92,9 +90,6 @@ text-stop = byte-stop textByte
 
 pub text-last : (l : List ℕ) (at i : ℕ) → Passing inText l at i → length l ≤ i → EndsAt inText l at i
 text-last = byte-end textByte
-
-abbrev symbolByte : ℕ → Bool
-symbolByte b = between 32 126 b && not (eqb b 39)
 
 pub symbol-turn : (l : List ℕ) (at i : ℕ) (t : Bool) → Passing inSymbol l at i → i < length l → t ≡ symbolByte (getD l i 0) → not t ≡ false → Passing inSymbol l at (i + 1)
 symbol-turn = byte-turn symbolByte

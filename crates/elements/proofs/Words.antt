@@ -1,5 +1,5 @@
 -- A word at a place, in the rules' terms: the element that it is, past its limit, or of no form.
-use Prim.Native.Nat.{ℕ, _+_, _-_, _≤_, _<_}
+use Prim.Native.Nat.{ℕ, _≤_, _<_}
 use mathlib.Core.Bool.{Bool, true, false, _&&_, _||_, true≢false}
 use mathlib.Core.Path.{_≡_, refl, sym, ap, subst, _∙_}
 use mathlib.Core.List.{List, [], _∷_, _++_, map}
@@ -9,25 +9,27 @@ use lib.ListN.{length, getD, drop, drop-of-length-le}
 use Rattle.rules.specs.Bytes.{fold, wordByte, Run, stops, goes-on}
 use Rattle.rules.specs.Data.{Elem, name, end, _on_}
 use Rattle.rules.specs.Modes.{base}
+use Rattle.rules.specs.Reading.{longest}
 use Rattle.rules.specs.Words.{Form, Past, Formless}
-use Rattle.rules.proofs.Elements.Pieces.{Classified}
+use Rattle.rules.proofs.Machine.Words.{Classified}
 use Rattle.rules.specs.Elements.{isBlank, inWord, setsOff, Spells, word, Fault, no-form, past-limit}
-use Rattle.classes.specs.Places.{part, EndsAt}
-use Rattle.words.specs.Says.{said, Means}
+use Rattle.classes.specs.Places.{part, EndsAt, asSpan, nameAt}
+use Rattle.words.specs.Says.{verdictOf, Means}
 use Rattle.words.specs.declared.Fixed.{Fixed}
 use Rattle.words.specs.declared.Real.{Real}
 use Rattle.words.specs.declared.Moment.{Moment}
 use Rattle.words.specs.declared.Value as value
 use Rattle.words.specs.declared.Value.the-variants as values
 use Rattle.elements.specs.Places.{Clear, WordBegins}
-use Rattle.elements.specs.Next.{nameAt, span, placedOf, placeOf, Stands, fails}
+use Rattle.elements.specs.Next.{placedOf, placeOf, Stands, fails}
 use Rattle.elements.specs.declared.Element.{Element}
 use Rattle.elements.specs.declared.Element.the-variants.{Name, The, End, Integer, Based, Float, Time}
 use Rattle.elements.specs.declared.Found.the-variants.{Next, Fault as FaultAt}
 use Rattle.classes.proofs.Runs.{unroll, joined, front-at}
-use Rattle.elements.proofs.Quotes.{part-length, stand}
+use Rattle.classes.proofs.Parts.{part-length}
+use Rattle.elements.proofs.Finding.{stand}
 
-pub begins-word : (l : List ℕ) (at : ℕ) (t : Bool) → Clear l at → length l ≤ 65535 → (at ≡ length l → ⊥) → t ≡ wordByte (getD l at 0) → t ≡ true → WordBegins l at
+pub begins-word : (l : List ℕ) (at : ℕ) (t : Bool) → Clear l at → length l ≤ longest → (at ≡ length l → ⊥) → t ≡ wordByte (getD l at 0) → t ≡ true → WordBegins l at
 begins-word l at t c s n h k =
     let w : at < length l = omega (arith, c .within) in
     record { within = w; is = front-at wordByte l at w ∙ sym h ∙ k; short = s }
@@ -67,25 +69,25 @@ off-by-blank l at t w n h = let k : at < length l = omega arith in rw (unroll l 
 
 -- ---- each value
 
-name-is : (l : List ℕ) (at e : ℕ) → name (nameAt l at e) on span at e ≡ name (map fold (part l at e)) on span at e
+name-is : (l : List ℕ) (at e : ℕ) → name (nameAt l at e) on asSpan at e ≡ name (map fold (part l at e)) on asSpan at e
 unfolding nameAt
 name-is l at e = refl
 
 module _ (l : List ℕ) (at e : ℕ) (b : WordBegins l at) (r : EndsAt inWord l at e) (v : value.Value) (m : Means (part l at e) v) where
-  is-element : (x : Elem) (d : Element) → Form base (setsOff base (drop e l)) (part l at e) x → placedOf l d ≡ x on span at e → placeOf d ≡ at → Stands l at (Next d e)
+  is-element : (x : Elem) (d : Element) → Form base (setsOff base (drop e l)) (part l at e) x → placedOf l d ≡ x on asSpan at e → placeOf d ≡ at → Stands l at (Next d e)
   is-element x d f p z =
       let less = long l at e b r in
       stand l at e 0 at e d x p (omega arith) (omega arith) z less (r .within) (spelled (part l at e) (drop e l) x (omega (arith, less, part-length l at e (r .within))) (r .is) f)
 
   -- what the rules say of the word, whatever is said of it
-  here : (u : value.Value) → v ≡ u → Classified base (setsOff base (drop e l)) (part l at e) (said (part l at e) (setsOff base (drop e l)) u)
-  here u q = subst (λ (x : value.Value). Classified base (setsOff base (drop e l)) (part l at e) (said (part l at e) (setsOff base (drop e l)) x)) q (m .means (setsOff base (drop e l)))
+  here : (u : value.Value) → v ≡ u → Classified base (setsOff base (drop e l)) (part l at e) (verdictOf (part l at e) (setsOff base (drop e l)) u)
+  here u q = subst (λ (x : value.Value). Classified base (setsOff base (drop e l)) (part l at e) (verdictOf (part l at e) (setsOff base (drop e l)) x)) q (m .means (setsOff base (drop e l)))
 
   pub word-name : v ≡ values.Name → Stands l at (Next (Name at e) e)
   word-name q = is-element _ (Name at e) (here values.Name q) (name-is l at e) refl
 
   pub word-end : (f : Bool) → v ≡ values.End → f ≡ setsOff base (drop e l) → Stands l at (Next (End f at e) e)
-  word-end f q h = is-element _ (End f at e) (here values.End q) (ap (λ (y : Bool). end y on span at e) h) refl
+  word-end f q h = is-element _ (End f at e) (here values.End q) (ap (λ (y : Bool). end y on asSpan at e) h) refl
 
   pub word-fixed : (k : Fixed) → v ≡ values.The k → Stands l at (Next (The k at e) e)
   word-fixed k q = is-element _ (The k at e) (here (values.The k) q) refl refl

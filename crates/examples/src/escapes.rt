@@ -1,4 +1,5 @@
 // A label as it stands on a line, with its escapes.
+use classes::byte_at;
 ghost use Prim.Native.Nat.{_≤_, _<_};
 ghost use lib.ListN.{length};
 
@@ -9,7 +10,7 @@ pub fn line_end(text: &[u8], from: usize) -> usize
 {
     let mut i = from;
     while i < text.len() {
-        if text[i] == 10 {
+        if text[i] == b'\n' {
             return i;
         }
         i += 1;
@@ -17,25 +18,21 @@ pub fn line_end(text: &[u8], from: usize) -> usize
     i
 }
 
-fn byte_at(s: &[u8], i: usize) -> u8 {
-    if i < s.len() { s[i] } else { 0 }
-}
-
 // The value of a hexadecimal digit; 0 for any other byte.
 fn digit(b: u8) -> u8
     ensures { λ r. ⌜ r < 16 ⌝ }
 {
-    if b < 48 {
+    if b < b'0' {
         return 0;
     }
-    if b <= 57 {
-        return b - 48;
+    if b <= b'9' {
+        return b - b'0';
     }
-    if b < 65 {
+    if b < b'A' {
         return 0;
     }
-    if b <= 70 {
-        return b - 55;
+    if b <= b'F' {
+        return b - b'A' + 10;
     }
     0
 }
@@ -45,16 +42,16 @@ fn escaped(line: &[u8], at: usize) -> u8
     requires { ⌜ at < length (now line) ⌝ }
 {
     let b = line[at];
-    if b == 110 {
-        return 10;
+    if b == b'n' {
+        return b'\n';
     }
-    if b == 114 {
-        return 13;
+    if b == b'r' {
+        return b'\r';
     }
-    if b == 116 {
-        return 9;
+    if b == b't' {
+        return b'\t';
     }
-    if b == 120 {
+    if b == b'x' {
         return digit(byte_at(line, at + 1)) * 16 + digit(byte_at(line, at + 2));
     }
     b
@@ -65,7 +62,7 @@ fn meant(line: &[u8], at: usize) -> u8
     requires { ⌜ at < length (now line) ⌝ }
 {
     let b = line[at];
-    if b != 92 {
+    if b != b'\\' {
         return b;
     }
     if at + 1 < line.len() {
@@ -79,10 +76,10 @@ fn taken(line: &[u8], at: usize) -> usize
     requires { ⌜ at < length (now line) ⌝ }
     ensures { λ r. ⌜ (1 ≤ r) × (r ≤ 4) ⌝ }
 {
-    if line[at] != 92 {
+    if line[at] != b'\\' {
         return 1;
     }
-    if byte_at(line, at + 1) == 120 {
+    if byte_at(line, at + 1) == b'x' {
         return 4;
     }
     2

@@ -1,5 +1,5 @@
-// Reads the examples of the documents, one a line of standard input, and prints for each its code, place and table length, and then the rows of
-// the table in words, or the reason why there is none.
+// Reads labels, one a line of standard input, and prints for each its code, place and table length, and then the rows of the table in words, or the
+// reason why there is none.
 //
 // A line is a label in which `\n`, `\r`, `\t`, `\\` and `\xHH` stand for single bytes.
 mod escapes; // escapes.rt: a label on a line

@@ -19,10 +19,10 @@ pub fn print_signed(minus: bool, size: u64) {
 
 // A number with zeros before it, up to the number of digits that the bound has; the bound is a power of ten.
 pub fn print_padded(n: u64, bound: u64) {
-    let mut least = bound;
-    while least > 99 {
-        least /= 10;
-        if n < least {
+    let mut power = bound;
+    while power > 99 {
+        power /= 10;
+        if n < power {
             io::write_all(1, b"0");
         }
     }
@@ -32,33 +32,33 @@ pub fn print_padded(n: u64, bound: u64) {
 fn hex_digit(n: u8) -> u8
     requires { ⌜ n ≤ 15 ⌝ }
 {
-    if n < 10 { n + 48 } else { n + 55 }
+    if n < 10 { n + b'0' } else { n - 10 + b'A' }
 }
 
 fn print_escape(b: u8) {
-    let four = [92, 120, hex_digit(b / 16), hex_digit(b % 16)];
+    let four = [b'\\', b'x', hex_digit(b / 16), hex_digit(b % 16)];
     io::write_all(1, &four);
 }
 
 // One byte of a label, with the escapes of the input.
 fn print_one(b: u8) {
-    if b == 10 {
+    if b == b'\n' {
         io::write_all(1, b"\\n");
         return;
     }
-    if b == 13 {
+    if b == b'\r' {
         io::write_all(1, b"\\r");
         return;
     }
-    if b == 9 {
+    if b == b'\t' {
         io::write_all(1, b"\\t");
         return;
     }
-    if b == 34 {
+    if b == b'"' {
         io::write_all(1, b"\\\"");
         return;
     }
-    if (b < 32) | (b == 92) | (b > 126) {
+    if (b < b' ') | (b == b'\\') | (b > b'~') {
         print_escape(b);
         return;
     }

@@ -3,10 +3,14 @@ use crate::escapes::unescape;
 use crate::print::print_byte;
 use crate::print::print_number;
 use crate::wording::print_rows;
+use classes::part;
 use statements::code_of;
 use statements::length_of;
 use statements::place_of;
 use statements::read;
+
+// Room for the table of a label on a line.
+const TABLE_ROOM: usize = 4096;
 
 fn print_reason(code: u8) {
     match code {
@@ -34,22 +38,14 @@ fn print_answer(code: u8, place: usize, len: usize) {
     io::write_all(1, b"\t");
 }
 
-// The first bytes, as far as there are any.
-fn front(s: &[u8], n: usize) -> &[u8] {
-    if n <= s.len() {
-        return &s[0..n];
-    }
-    s
-}
-
 fn read_and_print(label: &[u8]) {
-    let mut table = [0u8; 4096];
+    let mut table = [0u8; TABLE_ROOM];
     let answer = read(label, &mut table);
     let code = code_of(answer);
     let len = length_of(answer);
     print_answer(code, place_of(answer), len);
     if code == 0 {
-        print_rows(label, front(&table, len));
+        print_rows(label, part(&table, 0, len));
     } else {
         print_reason(code);
     }
@@ -59,6 +55,6 @@ fn read_and_print(label: &[u8]) {
 pub fn example(line: &[u8]) {
     let mut label = io::large_buffer();
     let n = unescape(line, &mut label);
-    read_and_print(front(&label, n));
+    read_and_print(part(&label, 0, n));
     io::write_all(1, b"\n");
 }

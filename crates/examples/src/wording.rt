@@ -3,20 +3,18 @@ use crate::print::print_bytes;
 use crate::print::print_number;
 use crate::print::print_padded;
 use crate::print::print_signed;
+use classes::part;
+use rows::Got;
 use rows::Kind;
 use rows::Op;
 use rows::Row;
-use table::row_at;
+use rows::row_at;
 use words::Moment;
 use words::Real;
 
-// The label's bytes from a to b, as far as there are any.
+// The label's bytes from a to b, as many as there are.
 fn print_span(label: &[u8], a: usize, b: usize) {
-    if a <= b {
-        if b <= label.len() {
-            print_bytes(&label[a..b]);
-        }
-    }
+    print_bytes(part(label, a, b));
 }
 
 fn print_named(what: &[u8], label: &[u8], a: usize, b: usize) {
@@ -113,7 +111,6 @@ fn print_last(place: usize) {
 
 fn print_row(label: &[u8], row: Row) {
     match row {
-        Row::Nothing => print_words(b""),
         Row::Attribute(a, b) => print_named(b"attribute ", label, a, b),
         Row::Pointer(a, b) => print_named(b"pointer ", label, a, b),
         Row::Open(kind, a, b) => print_open(kind, label, a, b),
@@ -129,7 +126,6 @@ fn print_row(label: &[u8], row: Row) {
         Row::Set => print_words(b"set"),
         Row::SetEnd => print_words(b"end of set"),
         Row::Last(place) => print_last(place),
-        Row::Stop(_, _) => print_words(b""),
     }
 }
 
@@ -137,15 +133,12 @@ fn print_row(label: &[u8], row: Row) {
 pub fn print_rows(label: &[u8], table: &[u8]) {
     let mut at = 0;
     while at < table.len() {
-        let g = row_at(table, at);
-        let next = g.next;
-        if next <= at {
+        let Got::Found(row, next) = row_at(table, at) else {
             return;
-        }
+        };
         if at != 0 {
             io::write_all(1, b"; ");
         }
-        let row = g.row;
         print_row(label, row);
         at = next;
     }

@@ -8,15 +8,15 @@ use borrow.Author.Tests.{eq-eqb, ne-eqb}
 use lib.Dec.{eqb}
 use lib.ListN.{length, getD, drop}
 use Rattle.rules.specs.Bytes.{digit, front, letter}
-use Rattle.rules.proofs.Words.Patterns.{G, run}
-use Rattle.rules.proofs.Words.Shapes.{any, g-after, g-signs, g-word}
+use Rattle.rules.proofs.Machine.Patterns.{G, run}
+use Rattle.rules.proofs.Machine.Words.{zero-or-more, g-after, g-signs, g-word, more}
 use Rattle.classes.specs.Places.{ByteAt}
 use Rattle.forms.specs.declared.Form.{Form}
 use Rattle.forms.specs.declared.Form.the-variants.{NoForm, Name}
 use Rattle.forms.specs.Laid.{SignTo, a-minus, a-plus, no-sign, no-form, name}
-use Rattle.forms.specs.Forms.{Reads, Signed, minus, plus, unsigned}
+use Rattle.forms.specs.Forms.{FormAt, Signed, minus, plus, unsigned}
 use Rattle.rules.specs.Modes.{base}
-use Rattle.rules.proofs.Words.Identifiers.{more, identifier-pass}
+use Rattle.rules.proofs.Words.Identifiers.{identifier-pass}
 use Rattle.forms.proofs.Reading.{r-yes, r-no, r-minus, r-plus, r-unsigned}
 
 front-first : (c : ℕ → Bool) (w : List ℕ) → c 0 ≡ false → front c w ≡ c (getD w 0 0)
@@ -34,11 +34,11 @@ module _ (w : List ℕ) (x : ℕ) (y : ByteAt w 0 x) (t : Bool) (k : t ≡ lette
       go [] e = absurd (false≢true e)
       go (b ∷ s) e = omega arith
 
-  pub shape-name : (u : Bool) → t ≡ true → u ≡ more false (drop 1 w) → u ≡ true → Reads (g-word base) w 0 Name
-  shape-name u h e f = r-yes w 0 Name (lettered true h) (record { reads = rw (identifier-pass w, lettered true h, sym e ∙ f); laid = name })
+  pub shape-name : (u : Bool) → t ≡ true → u ≡ more false (drop 1 w) → u ≡ true → FormAt (g-word base) w 0 Name
+  shape-name u h e f = r-yes w 0 Name (lettered true h) (record { matched = rw (identifier-pass w, lettered true h, sym e ∙ f); laid = name })
 
-  pub shape-unnamed : (u : Bool) → t ≡ true → u ≡ more false (drop 1 w) → u ≡ false → Reads (g-word base) w 0 NoForm
-  shape-unnamed u h e f = r-yes w 0 NoForm (lettered true h) (record { reads = rw (identifier-pass w, lettered true h, sym e ∙ f); laid = no-form })
+  pub shape-unnamed : (u : Bool) → t ≡ true → u ≡ more false (drop 1 w) → u ≡ false → FormAt (g-word base) w 0 NoForm
+  shape-unnamed u h e f = r-yes w 0 NoForm (lettered true h) (record { matched = rw (identifier-pass w, lettered true h, sym e ∙ f); laid = no-form })
 
   pub sign-there : {n : ℕ} → Signed x n → n ≤ length w
   sign-there (minus q) = omega (arith, y .inside)
@@ -52,15 +52,15 @@ module _ (w : List ℕ) (x : ℕ) (y : ByteAt w 0 x) (t : Bool) (k : t ≡ lette
   sign-laid (unsigned n n₂) = rw (ne-eqb x 45 n) (no-sign (λ z. n (y .is ∙ z)) (λ z. n₂ (y .is ∙ z)))
 
   abbrev Numbered : ℕ → Bool → Form → Type 0
-  Numbered n neg r = Reads (run digit any (g-after base (not (eqb n 0)) neg)) w n r
+  Numbered n neg r = FormAt (run digit zero-or-more (g-after base (not (eqb n 0)) neg)) w n r
 
   abbrev digits : Bool → Bool → G
-  digits s neg = run digit any (g-after base s neg)
+  digits s neg = run digit zero-or-more (g-after base s neg)
 
-  pub shape-number : (r : Form) {n : ℕ} → t ≡ false → Signed x n → Numbered n (eqb x 45) r → Reads (g-word base) w 0 r
+  pub shape-number : (r : Form) {n : ℕ} → t ≡ false → Signed x n → Numbered n (eqb x 45) r → FormAt (g-word base) w 0 r
   shape-number r h s g = r-no w 0 r (lettered false h) (go s g)
     where
-      go : {n : ℕ} → Signed x n → Numbered n (eqb x 45) r → Reads (g-signs digits) w 0 r
+      go : {n : ℕ} → Signed x n → Numbered n (eqb x 45) r → FormAt (g-signs digits) w 0 r
       go (minus q) g = r-minus digits w 0 x r y q (subst (λ (neg : Bool). Numbered 1 neg r) (eq-eqb x 45 q) g)
       go (plus n q) g = r-plus digits w 0 x r y n q (subst (λ (neg : Bool). Numbered 1 neg r) (ne-eqb x 45 n) g)
       go (unsigned n n₂) g = r-unsigned digits w 0 x r y n n₂ (subst (λ (neg : Bool). Numbered 0 neg r) (ne-eqb x 45 n) g)

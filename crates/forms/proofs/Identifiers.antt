@@ -8,7 +8,7 @@ use borrow.Author.Tests.{eq-eqb, ne-eqb}
 use lib.Dec.{eqb}
 use lib.ListN.{length, getD, drop, drop-of-length-le}
 use Rattle.rules.specs.Bytes.{alnum}
-use Rattle.rules.proofs.Words.Identifiers.{more, nextMore}
+use Rattle.rules.proofs.Machine.Words.{more, nextMore}
 use Rattle.classes.proofs.Runs.{unroll}
 
 pub record Going (w : List ℕ) (from : ℕ) (u : Bool) (i : ℕ) : Type 0 where

@@ -9,8 +9,8 @@ use lib.ListN.{length, getD}
 use Rattle.rules.specs.Bytes.{alnum, front}
 use Rattle.rules.specs.Values.{Written, an-identifier, a-whole, a-based, a-decimal, a-date, a-time, a-date-time, a-range}
 use Rattle.rules.specs.Modes.{base}
-use Rattle.rules.proofs.Words.Patterns.{G}
-use Rattle.rules.proofs.Words.Shapes.{g-word}
+use Rattle.rules.proofs.Machine.Patterns.{G}
+use Rattle.rules.proofs.Machine.Words.{g-word}
 use Rattle.classes.specs.Places.{EndsAt}
 use Rattle.classes.proofs.Once.{ends-once}
 use Rattle.forms.specs.declared.Span.{Span}
@@ -21,8 +21,8 @@ use Rattle.forms.specs.declared.Stamp.{Stamp}
 use Rattle.forms.specs.declared.Stamp.the-variants.{Undated, Dated}
 use Rattle.forms.specs.declared.Form.{Form}
 use Rattle.forms.specs.declared.Form.the-variants.{NoForm, Name, Whole, Radix, Decimal, Day, Moment}
-use Rattle.forms.specs.Laid.{span, absent, Digits, Behind, behind, SignTo, a-minus, a-plus, no-sign, RadixTo, radix-to, BasedTo, based-to, MantissaTo, pointed-to, bare-to, PowerTo, power-to, MonthTo, month-to, DateTo, year-to, day-to, StampTo, undated-to, dated-to, HourTo, hour-to, MinuteTo, minute-to, SecondTo, second-to, ClockTo, minutes-to, seconds-to, decimals-to, Unzoned, unzoned, OffsetTo, offset-to, Laid, no-form, name, whole, radix, unscaled, scaled, day, no-offset, by-hour, by-minute}
-use Rattle.forms.specs.Forms.{written, Reads}
+use Rattle.forms.specs.Laid.{piece, absent, DigitsTo, Behind, behind, SignTo, a-minus, a-plus, no-sign, RadixTo, radix-to, BasedTo, based-to, MantissaTo, pointed-to, bare-to, PowerTo, power-to, MonthTo, month-to, DateTo, year-to, day-to, StampTo, undated-to, dated-to, HourTo, hour-to, MinuteTo, minute-to, SecondTo, second-to, ClockTo, minutes-to, seconds-to, decimals-to, Unzoned, unzoned, OffsetTo, offset-to, Laid, no-form, name, whole, radix, unscaled, scaled, day, no-offset, by-hour, by-minute}
+use Rattle.forms.specs.Forms.{written, FormAt}
 
 -- ---- which form
 
@@ -108,8 +108,8 @@ further : {a b : ℕ} → a ≡ b → a + 1 ≡ b + 1
 further h = ap (λ (n : ℕ). n + 1) h
 
 module _ (w : List ℕ) where
-  digits-once : {a a′ e e′ : ℕ} → a ≡ a′ → Digits w a e → Digits w a′ e′ → e ≡ e′
-  digits-once {e = e} q x y = ends-once (subst (λ (n : ℕ). Digits w n e) q x) y
+  digits-once : {a a′ e e′ : ℕ} → a ≡ a′ → DigitsTo w a e → DigitsTo w a′ e′ → e ≡ e′
+  digits-once {e = e} q x y = ends-once (subst (λ (n : ℕ). DigitsTo w n e) q x) y
 
   byte-same : {a a′ : ℕ} → a ≡ a′ → getD w a 0 ≡ getD w a′ 0
   byte-same q = ap (λ (n : ℕ). getD w n 0) q
@@ -133,7 +133,7 @@ module _ (w : List ℕ) where
   -- ---- numbers
 
   radix-once : {r r′ : Span} {e e′ : ℕ} → RadixTo w r e → RadixTo w r′ e′ → _≡_ {A = Span × ℕ} (r, e) (r′, e′)
-  radix-once (radix-to d) (radix-to d′) = let h = digits-once refl d d′ in λ i. (span 0 (h i), h i)
+  radix-once (radix-to d) (radix-to d′) = let h = digits-once refl d d′ in λ i. (piece 0 (h i), h i)
 
   based-once : {r r′ : Span} {neg neg′ : Bool} {a a′ : ℕ} → BasedTo w r neg a → BasedTo w r′ neg′ a′ → _≡_ {A = (Span × Bool) × ℕ} ((r, neg), a) ((r′, neg′), a′)
   based-once (based-to b s) (based-to b′ s′) =
@@ -153,7 +153,7 @@ module _ (w : List ℕ) where
       let a = sign-once refl s s′ in
       let b = digits-once (place a) d d′ in
       let c = digits-once (further b) f f′ in
-      λ i. ((a i .0, span (a i .1) (b i), span (b i + 1) (c i)), c i)
+      λ i. ((a i .0, piece (a i .1) (b i), piece (b i + 1) (c i)), c i)
   mantissa-once (pointed-to s d h f) (bare-to s′ d′ n) =
       absurd (n (sym (byte-same (digits-once (place (sign-once refl s s′)) d d′)) ∙ h))
   mantissa-once (bare-to s d n) (pointed-to s′ d′ h f) =
@@ -161,7 +161,7 @@ module _ (w : List ℕ) where
   mantissa-once (bare-to s d n) (bare-to s′ d′ n′) =
       let a = sign-once refl s s′ in
       let b = digits-once (place a) d d′ in
-      λ i. ((a i .0, span (a i .1) (b i), absent), b i)
+      λ i. ((a i .0, piece (a i .1) (b i), absent), b i)
 
   power-once : {neg neg′ below below′ : Bool} {ds fs ds′ fs′ : Span} {a a′ : ℕ} → PowerTo w neg ds fs below a → PowerTo w neg′ ds′ fs′ below′ a′ →
       _≡_ {A = (Mantissa × Bool) × ℕ} (((neg, ds, fs), below), a) (((neg′, ds′, fs′), below′), a′)
@@ -171,22 +171,22 @@ module _ (w : List ℕ) where
       λ i. ((h i .0, k i .0), k i .1)
 
   -- an exponent that is written does not end where its mantissa does
-  power-on : {neg neg′ below : Bool} {ds fs ds′ fs′ : Span} {e a b : ℕ} → MantissaTo w neg ds fs e → e ≡ length w → PowerTo w neg′ ds′ fs′ below a → Digits w a b → ⊥
+  power-on : {neg neg′ below : Bool} {ds fs ds′ fs′ : Span} {e a b : ℕ} → MantissaTo w neg ds fs e → e ≡ length w → PowerTo w neg′ ds′ fs′ below a → DigitsTo w a b → ⊥
   power-on m q (power-to (behind m′) s) d = omega (arith, place (mantissa-once m m′), sign-on s, d .from, d .within)
 
   -- ---- dates and times
 
   month-once : {m m′ : Span} {e e′ : ℕ} → MonthTo w m e → MonthTo w m′ e′ → _≡_ {A = Span × ℕ} (m, e) (m′, e′)
-  month-once (month-to d h) (month-to d′ h′) = let q = digits-once refl d d′ in λ i. (span 5 (q i), q i)
+  month-once (month-to d h) (month-to d′ h′) = let q = digits-once refl d d′ in λ i. (piece 5 (q i), q i)
 
   date-once : {d d′ : Date} {e e′ : ℕ} → DateTo w d e → DateTo w d′ e′ → _≡_ {A = Date × ℕ} (d, e) (d′, e′)
-  date-once (year-to d n) (year-to d′ n′) = let q = digits-once refl d d′ in λ i. (InYear (span 5 (q i)), q i)
+  date-once (year-to d n) (year-to d′ n′) = let q = digits-once refl d d′ in λ i. (InYear (piece 5 (q i)), q i)
   date-once (year-to d n) (day-to (behind (month-to d′ h)) x) = absurd (n (byte-same (digits-once refl d d′) ∙ h))
   date-once (day-to (behind (month-to d h)) x) (year-to d′ n) = absurd (n (sym (byte-same (digits-once refl d d′)) ∙ h))
   date-once (day-to m d) (day-to m′ d′) =
       let h = behind-once (MonthTo w) (λ e e′. month-once) m m′ in
       let q = digits-once (place h) d d′ in
-      λ i. (InMonth (h i .0) (span (h i .1) (q i)), q i)
+      λ i. (InMonth (h i .0) (piece (h i .1) (q i)), q i)
 
   stamp-once : {s s′ : Stamp} {a a′ : ℕ} → isDated s ≡ isDated s′ → StampTo w s a → StampTo w s′ a′ → _≡_ {A = Stamp × ℕ} (s, a) (s′, a′)
   stamp-once k undated-to undated-to = refl
@@ -199,20 +199,20 @@ module _ (w : List ℕ) where
     hour-once (hour-to t d) (hour-to t′ d′) =
         let a = stamp-once k t t′ in
         let q = digits-once (place a) d d′ in
-        λ i. ((a i .0, span (a i .1) (q i)), q i)
+        λ i. ((a i .0, piece (a i .1) (q i)), q i)
 
     minute-once : {h h′ m m′ : Span} {e e′ : ℕ} → MinuteTo w s h m e → MinuteTo w s′ h′ m′ e′ → _≡_ {A = (Stamp × Span × Span) × ℕ} ((s, h, m), e) ((s′, h′, m′), e′)
     minute-once (minute-to t d) (minute-to t′ d′) =
         let a = behind-once (λ (x : Stamp × Span). HourTo w (x .0) (x .1)) (λ e e′. hour-once) t t′ in
         let q = digits-once (place a) d d′ in
-        λ i. ((a i .0 .0, a i .0 .1, span (a i .1) (q i)), q i)
+        λ i. ((a i .0 .0, a i .0 .1, piece (a i .1) (q i)), q i)
 
     second-once : {h h′ m m′ x x′ : Span} {e e′ : ℕ} → SecondTo w s h m x e → SecondTo w s′ h′ m′ x′ e′ →
         _≡_ {A = (Stamp × Span × Span × Span) × ℕ} ((s, h, m, x), e) ((s′, h′, m′, x′), e′)
     second-once (second-to t b d) (second-to t′ b′ d′) =
         let a = minute-once t t′ in
         let q = digits-once (further (place a)) d d′ in
-        λ i. ((a i .0 .0, a i .0 .1, a i .0 .2, span (a i .1 + 1) (q i)), q i)
+        λ i. ((a i .0 .0, a i .0 .1, a i .0 .2, piece (a i .1 + 1) (q i)), q i)
 
     -- seconds are written where a colon stands
     second-there : {h h′ m m′ x : Span} {e e′ : ℕ} → MinuteTo w s h m e → (getD w e 0 ≡ 58 → ⊥) → SecondTo w s′ h′ m′ x e′ → ⊥
@@ -234,7 +234,7 @@ module _ (w : List ℕ) where
   clock-once k (decimals-to t b d) (decimals-to t′ b′ d′) =
       let a = second-once k t t′ in
       let q = digits-once (further (place a)) d d′ in
-      λ i. ((a i .0 .0, record { hour = a i .0 .1; minute = a i .0 .2; second = a i .0 .3; decimals = span (a i .1 + 1) (q i) }), q i)
+      λ i. ((a i .0 .0, record { hour = a i .0 .1; minute = a i .0 .2; second = a i .0 .3; decimals = piece (a i .1 + 1) (q i) }), q i)
 
   offset-once : {s s′ : Stamp} {c c′ : Clock} {west west′ : Bool} {a a′ : ℕ} → isDated s ≡ isDated s′ → OffsetTo w s c west a → OffsetTo w s′ c′ west′ a′ →
       _≡_ {A = ((Stamp × Clock) × Bool) × ℕ} (((s, c), west), a) (((s′, c′), west′), a′)
@@ -253,16 +253,16 @@ module _ (w : List ℕ) where
   data Seen : Which → Form → Type 0 where
     see-nothing : Seen nothing NoForm
     see-name : Seen names Name
-    see-whole : {neg : Bool} {a e : ℕ} → SignTo w 0 neg a → Digits w a e → Seen wholes (Whole neg (span a e))
-    see-radix : {r : Span} {neg : Bool} {a e : ℕ} → BasedTo w r neg a → EndsAt (front alnum) w a e → Seen radices (Radix r neg (span a e))
+    see-whole : {neg : Bool} {a e : ℕ} → SignTo w 0 neg a → DigitsTo w a e → Seen wholes (Whole neg (piece a e))
+    see-radix : {r : Span} {neg : Bool} {a e : ℕ} → BasedTo w r neg a → EndsAt (front alnum) w a e → Seen radices (Radix r neg (piece a e))
     see-unscaled : {neg : Bool} {ds fs : Span} {e : ℕ} → MantissaTo w neg ds fs e → e ≡ length w → Seen decimals (Decimal neg ds fs false absent)
-    see-scaled : {neg below : Bool} {ds fs : Span} {a e : ℕ} → PowerTo w neg ds fs below a → Digits w a e → Seen decimals (Decimal neg ds fs below (span a e))
+    see-scaled : {neg below : Bool} {ds fs : Span} {a e : ℕ} → PowerTo w neg ds fs below a → DigitsTo w a e → Seen decimals (Decimal neg ds fs below (piece a e))
     see-day : {d : Date} {e : ℕ} → DateTo w d e → Seen days (Day d)
     see-local : {s : Stamp} {c : Clock} → Unzoned w s c → Seen moments (Moment s c (record { west = false; hours = absent; minutes = absent }))
-    see-hour : {s : Stamp} {c : Clock} {west : Bool} {a e : ℕ} → OffsetTo w s c west a → Digits w a e → e ≡ length w →
-        Seen moments (Moment s c (record { west = west; hours = span a e; minutes = absent }))
-    see-minute : {s : Stamp} {c : Clock} {west : Bool} {a e b : ℕ} → OffsetTo w s c west a → Digits w a e → Digits w (e + 1) b →
-        Seen moments (Moment s c (record { west = west; hours = span a e; minutes = span (e + 1) b }))
+    see-hour : {s : Stamp} {c : Clock} {west : Bool} {a e : ℕ} → OffsetTo w s c west a → DigitsTo w a e → e ≡ length w →
+        Seen moments (Moment s c (record { west = west; hours = piece a e; minutes = absent }))
+    see-minute : {s : Stamp} {c : Clock} {west : Bool} {a e b : ℕ} → OffsetTo w s c west a → DigitsTo w a e → DigitsTo w (e + 1) b →
+        Seen moments (Moment s c (record { west = west; hours = piece a e; minutes = piece (e + 1) b }))
 
   seen : {r : Form} → Laid w r → Seen (which r) r
   seen no-form = see-nothing
@@ -277,8 +277,8 @@ module _ (w : List ℕ) where
   seen (by-minute o d d′) = see-minute o d d′
 
   -- an offset of hours alone ends the word
-  minute-there : {s s′ : Stamp} {c c′ : Clock} {west west′ : Bool} {a a′ e e′ b : ℕ} → isDated s ≡ isDated s′ → OffsetTo w s c west a → Digits w a e → e ≡ length w →
-      OffsetTo w s′ c′ west′ a′ → Digits w a′ e′ → Digits w (e′ + 1) b → ⊥
+  minute-there : {s s′ : Stamp} {c c′ : Clock} {west west′ : Bool} {a a′ e e′ b : ℕ} → isDated s ≡ isDated s′ → OffsetTo w s c west a → DigitsTo w a e → e ≡ length w →
+      OffsetTo w s′ c′ west′ a′ → DigitsTo w a′ e′ → DigitsTo w (e′ + 1) b → ⊥
   minute-there k o d q o′ d′ f = omega (arith, digits-once (place (offset-once k o o′)) d d′, f .from, f .within)
 
   seen-once : {k : Which} {r r′ : Form} → Seen k r → Seen k r′ → dates r ≡ dates r′ → r ≡ r′
@@ -287,18 +287,18 @@ module _ (w : List ℕ) where
   seen-once (see-whole s d) (see-whole s′ d′) v =
       let a = sign-once refl s s′ in
       let q = digits-once (place a) d d′ in
-      λ i. Whole (a i .0) (span (a i .1) (q i))
+      λ i. Whole (a i .0) (piece (a i .1) (q i))
   seen-once (see-radix {e} b d) (see-radix b′ d′) v =
       let a = based-once b b′ in
       let q = ends-once (subst (λ (n : ℕ). EndsAt (front alnum) w n e) (place a) d) d′ in
-      λ i. Radix (a i .0 .0) (a i .0 .1) (span (a i .1) (q i))
+      λ i. Radix (a i .0 .0) (a i .0 .1) (piece (a i .1) (q i))
   seen-once (see-unscaled m q) (see-unscaled m′ q′) v = let a = mantissa-once m m′ in λ i. Decimal (a i .0 .0) (a i .0 .1) (a i .0 .2) false absent
   seen-once (see-unscaled m q) (see-scaled p d) v = absurd (power-on m q p d)
   seen-once (see-scaled p d) (see-unscaled m q) v = absurd (power-on m q p d)
   seen-once (see-scaled p d) (see-scaled p′ d′) v =
       let a = power-once p p′ in
       let q = digits-once (place a) d d′ in
-      λ i. Decimal (a i .0 .0 .0) (a i .0 .0 .1) (a i .0 .0 .2) (a i .0 .1) (span (a i .1) (q i))
+      λ i. Decimal (a i .0 .0 .0) (a i .0 .0 .1) (a i .0 .0 .2) (a i .0 .1) (piece (a i .1) (q i))
   seen-once (see-day d) (see-day d′) v = let a = date-once d d′ in λ i. Day (a i .0)
   seen-once (see-local (unzoned t x)) (see-local (unzoned t′ x′)) v =
       let a = clock-once v t t′ in
@@ -310,14 +310,14 @@ module _ (w : List ℕ) where
   seen-once (see-hour o d q) (see-hour o′ d′ q′) v =
       let a = offset-once v o o′ in
       let b = digits-once (place a) d d′ in
-      λ i. Moment (a i .0 .0 .0) (a i .0 .0 .1) (record { west = a i .0 .1; hours = span (a i .1) (b i); minutes = absent })
+      λ i. Moment (a i .0 .0 .0) (a i .0 .0 .1) (record { west = a i .0 .1; hours = piece (a i .1) (b i); minutes = absent })
   seen-once (see-hour o d q) (see-minute o′ d′ f) v = absurd (minute-there v o d q o′ d′ f)
   seen-once (see-minute o d f) (see-hour o′ d′ q) v = absurd (minute-there (sym v) o′ d′ q o d f)
   seen-once (see-minute o d f) (see-minute o′ d′ f′) v =
       let a = offset-once v o o′ in
       let b = digits-once (place a) d d′ in
       let c = digits-once (further b) f f′ in
-      λ i. Moment (a i .0 .0 .0) (a i .0 .0 .1) (record { west = a i .0 .1; hours = span (a i .1) (b i); minutes = span (b i + 1) (c i) })
+      λ i. Moment (a i .0 .0 .0) (a i .0 .0 .1) (record { west = a i .0 .1; hours = piece (a i .1) (b i); minutes = piece (b i + 1) (c i) })
 
   pub laid-once : {r r′ : Form} → Laid w r → Laid w r′ → written w r ≡ written w r′ → r ≡ r′
   laid-once {r} {r′} l l′ v =
@@ -325,8 +325,8 @@ module _ (w : List ℕ) where
       seen-once (seen l) (subst (λ (k : Which). Seen k r′) k (seen l′)) (sym (dated-is w r) ∙ ap dated v ∙ dated-is w r′)
 
 -- two answers to what stands from a place on are one: of `shape`, and of every function for a part of the pattern
-pub reads-once : {g : G} {w : List ℕ} {at : ℕ} {r r′ : Form} → Reads g w at r → Reads g w at r′ → r ≡ r′
-reads-once {w = w} x y = laid-once w (x .laid) (y .laid) (sym (x .reads) ∙ y .reads)
+pub form-at-once : {g : G} {w : List ℕ} {at : ℕ} {r r′ : Form} → FormAt g w at r → FormAt g w at r′ → r ≡ r′
+form-at-once {w = w} x y = laid-once w (x .laid) (y .laid) (sym (x .matched) ∙ y .matched)
 
-pub shape-once : {w : List ℕ} {r r′ : Form} → Reads (g-word base) w 0 r → Reads (g-word base) w 0 r′ → r ≡ r′
-shape-once = reads-once
+pub shape-once : {w : List ℕ} {r r′ : Form} → FormAt (g-word base) w 0 r → FormAt (g-word base) w 0 r′ → r ≡ r′
+shape-once = form-at-once

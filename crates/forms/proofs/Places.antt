@@ -8,7 +8,7 @@ use lib.ListN.{length, getD, List·getD-eq-default}
 use Rattle.classes.specs.Places.{ByteAt}
 use Rattle.forms.specs.declared.Clock.{Clock}
 use Rattle.forms.specs.declared.Stamp.{Stamp}
-use Rattle.forms.specs.Laid.{Digits, a-minus, a-plus, no-sign, ClockTo, Unzoned, unzoned, OffsetTo, offset-to}
+use Rattle.forms.specs.Laid.{DigitsTo, a-minus, a-plus, no-sign, ClockTo, Unzoned, unzoned, OffsetTo, offset-to}
 
 module _ (w : List ℕ) (at x k : ℕ) (y : ByteAt w at x) where
   pub byte-is : x ≡ k → getD w at 0 ≡ k
@@ -18,7 +18,7 @@ module _ (w : List ℕ) (at x k : ℕ) (y : ByteAt w at x) where
   byte-not n q = n (y .is ∙ q)
 
 -- digits with no sign before them
-pub digits-first : (w : List ℕ) (from at : ℕ) → from ≡ 0 → Digits w from at → Digits w 0 at
+pub digits-first : (w : List ℕ) (from at : ℕ) → from ≡ 0 → DigitsTo w from at → DigitsTo w 0 at
 digits-first w from at q d = rw q at d
 
 -- ---- the offset of a time

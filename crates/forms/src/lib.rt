@@ -1,7 +1,7 @@
 // The form of a word: which bytes of it are what, as spans of the word, or that it has no form.
-mod ends;
-mod numbers;
-mod times;
+mod ends; // ends.rt: where digits and letters end
+mod numbers; // numbers.rt: numbers
+mod times; // times.rt: dates and times
 
 use classes::byte_at;
 use classes::is_alnum;
@@ -12,9 +12,8 @@ ghost use mathlib.Core.Bool.{false};
 ghost use Prim.Native.Nat.{_≤_};
 ghost use lib.ListN.{length, drop};
 ghost use Rattle.rules.specs.Modes.{base};
-ghost use Rattle.rules.proofs.Words.Identifiers.{more};
-ghost use Rattle.rules.proofs.Words.Shapes.{g-word};
-ghost use Rattle.forms.specs.Forms.{Reads, Signed};
+ghost use Rattle.rules.proofs.Machine.Words.{more, g-word};
+ghost use Rattle.forms.specs.Forms.{FormAt, Signed};
 
 // The bytes of the word from a place up to another; 0 up to 0 for what is not written.
 pub struct Span {
@@ -74,7 +73,7 @@ fn is_more(w: &[u8], from: usize) -> bool
             under = false;
             i += 1;
         } else {
-            if b != 95 {
+            if b != b'_' {
                 return false;
             }
             if under {
@@ -91,10 +90,10 @@ fn is_more(w: &[u8], from: usize) -> bool
 fn sign_length(b: u8) -> usize
     ensures { λ r. ⌜ Signed b r ⌝ }
 {
-    if b == 45 {
+    if b == b'-' {
         return 1;
     }
-    if b == 43 {
+    if b == b'+' {
         return 1;
     }
     0
@@ -102,7 +101,7 @@ fn sign_length(b: u8) -> usize
 
 // The form of any bytes as a word, in one pass over them. One call of `number_at`: the compiler then keeps the form in registers.
 pub fn shape(w: &[u8]) -> Form
-    ensures { λ r. ⌜ Reads (g-word base) (now (w .entry)) 0 r ⌝ }
+    ensures { λ r. ⌜ FormAt (g-word base) (now (w .entry)) 0 r ⌝ }
 {
     let b = byte_at(w, 0);
     if is_letter(b) {
@@ -111,5 +110,5 @@ pub fn shape(w: &[u8]) -> Form
         }
         return Form::NoForm;
     }
-    number_at(w, b == 45, sign_length(b))
+    number_at(w, b == b'-', sign_length(b))
 }

@@ -1,29 +1,29 @@
 // Times and dates at a place of a word: one function for each part of the pattern.
-use super::Clock;
-use super::Date;
-use super::Form;
-use super::Span;
-use super::Stamp;
-use super::Zone;
-use super::ends::counts;
-use super::ends::digits_end;
+use crate::Clock;
+use crate::Date;
+use crate::Form;
+use crate::Span;
+use crate::Stamp;
+use crate::Zone;
+use crate::ends::counts;
+use crate::ends::digits_end;
 use classes::byte_at;
 ghost use mathlib.Core.Bool.{false};
 ghost use Prim.Native.Nat.{_≤_};
 ghost use lib.ListN.{length};
 ghost use Rattle.rules.specs.Bytes.{digit, between};
 ghost use Rattle.rules.specs.Values.{utc};
-ghost use Rattle.rules.proofs.Words.Patterns.{run, stop};
-ghost use Rattle.rules.proofs.Words.Shapes.{g-days, g-dated, g-time, g-minutes, g-seconds, g-zone, g-offset};
+ghost use Rattle.rules.proofs.Machine.Patterns.{run, stop};
+ghost use Rattle.rules.proofs.Machine.Words.{g-days, g-dated, g-time, g-minutes, g-seconds, g-zone, g-offset};
 ghost use Rattle.classes.specs.Places.{part};
 ghost use Rattle.forms.specs.Laid.{Behind, MonthTo, DateTo, StampTo, HourTo, MinuteTo, SecondTo, ClockTo, Unzoned, OffsetTo};
-ghost use Rattle.forms.specs.Forms.{Reads, timeOf, stamped, dateOf, on, atSecond, g-decimals, inMonth};
+ghost use Rattle.forms.specs.Forms.{FormAt, timeOf, stamped, dateOf, on, atSecond, g-decimals, inMonth};
 
 // The zone of a time, behind its sign.
 fn zone_offset(w: &[u8], stamp: Stamp, clock: Clock, west: bool, at: usize) -> Form
     requires { ⌜ at ≤ length (now w) ⌝ }
     requires { ⌜ OffsetTo (now w) stamp clock west at ⌝ }
-    ensures { λ r. ⌜ Reads (g-offset west (λ z. timeOf (now (w .entry)) stamp clock z)) (now (w .entry)) at r ⌝ }
+    ensures { λ r. ⌜ FormAt (g-offset west (λ z. timeOf (now (w .entry)) stamp clock z)) (now (w .entry)) at r ⌝ }
 {
     let e = digits_end(w, at);
     let hours = Span { from: at, upto: e };
@@ -38,7 +38,7 @@ fn zone_offset(w: &[u8], stamp: Stamp, clock: Clock, west: bool, at: usize) -> F
         };
         return Form::Moment(stamp, clock, zone);
     }
-    if byte_at(w, e) != 58 {
+    if byte_at(w, e) != b':' {
         return Form::NoForm;
     }
     let q = e + 1;
@@ -61,7 +61,7 @@ fn zone_offset(w: &[u8], stamp: Stamp, clock: Clock, west: bool, at: usize) -> F
 fn utc_end(w: &[u8], stamp: Stamp, clock: Clock, at: usize) -> Form
     requires { ⌜ at ≤ length (now w) ⌝ }
     requires { ⌜ Unzoned (now w) stamp clock ⌝ }
-    ensures { λ r. ⌜ Reads (stop (timeOf (now (w .entry)) stamp clock utc)) (now (w .entry)) at r ⌝ }
+    ensures { λ r. ⌜ FormAt (stop (timeOf (now (w .entry)) stamp clock utc)) (now (w .entry)) at r ⌝ }
 {
     if at != w.len() {
         return Form::NoForm;
@@ -82,22 +82,22 @@ fn utc_end(w: &[u8], stamp: Stamp, clock: Clock, at: usize) -> Form
 fn zone_at(w: &[u8], stamp: Stamp, clock: Clock, at: usize) -> Form
     requires { ⌜ at ≤ length (now w) ⌝ }
     requires { ⌜ ClockTo (now w) stamp clock at ⌝ }
-    ensures { λ r. ⌜ Reads (g-zone (λ z. timeOf (now (w .entry)) stamp clock z)) (now (w .entry)) at r ⌝ }
+    ensures { λ r. ⌜ FormAt (g-zone (λ z. timeOf (now (w .entry)) stamp clock z)) (now (w .entry)) at r ⌝ }
 {
     if at == w.len() {
         return utc_end(w, stamp, clock, at);
     }
     let b = w[at];
-    if b == 90 {
+    if b == b'Z' {
         return utc_end(w, stamp, clock, at + 1);
     }
-    if b == 122 {
+    if b == b'z' {
         return utc_end(w, stamp, clock, at + 1);
     }
-    if b == 45 {
+    if b == b'-' {
         return zone_offset(w, stamp, clock, true, at + 1);
     }
-    if b == 43 {
+    if b == b'+' {
         return zone_offset(w, stamp, clock, false, at + 1);
     }
     Form::NoForm
@@ -107,9 +107,9 @@ fn zone_at(w: &[u8], stamp: Stamp, clock: Clock, at: usize) -> Form
 fn decimals(w: &[u8], stamp: Stamp, hour: Span, minute: Span, second: Span, at: usize) -> Form
     requires { ⌜ at ≤ length (now w) ⌝ }
     requires { ⌜ SecondTo (now w) stamp hour minute second at ⌝ }
-    ensures { λ r. ⌜ Reads (g-decimals (on (now (w .entry)) second) (atSecond (now (w .entry)) stamp hour minute)) (now (w .entry)) at r ⌝ }
+    ensures { λ r. ⌜ FormAt (g-decimals (on (now (w .entry)) second) (atSecond (now (w .entry)) stamp hour minute)) (now (w .entry)) at r ⌝ }
 {
-    if byte_at(w, at) != 46 {
+    if byte_at(w, at) != b'.' {
         let clock = Clock {
             hour,
             minute,
@@ -133,9 +133,9 @@ fn decimals(w: &[u8], stamp: Stamp, hour: Span, minute: Span, second: Span, at: 
 fn seconds(w: &[u8], stamp: Stamp, hour: Span, minute: Span, at: usize) -> Form
     requires { ⌜ at ≤ length (now w) ⌝ }
     requires { ⌜ MinuteTo (now w) stamp hour minute at ⌝ }
-    ensures { λ r. ⌜ Reads (g-seconds (atSecond (now (w .entry)) stamp hour minute)) (now (w .entry)) at r ⌝ }
+    ensures { λ r. ⌜ FormAt (g-seconds (atSecond (now (w .entry)) stamp hour minute)) (now (w .entry)) at r ⌝ }
 {
-    if byte_at(w, at) != 58 {
+    if byte_at(w, at) != b':' {
         let none = Span { from: 0, upto: 0 };
         let clock = Clock {
             hour,
@@ -157,7 +157,7 @@ fn seconds(w: &[u8], stamp: Stamp, hour: Span, minute: Span, at: usize) -> Form
 pub fn minutes(w: &[u8], stamp: Stamp, hour: Span, at: usize) -> Form
     requires { ⌜ at ≤ length (now w) ⌝ }
     requires { ⌜ Behind (HourTo (now w) stamp hour) at ⌝ }
-    ensures { λ r. ⌜ Reads (g-minutes (on (now (w .entry)) hour) (stamped (now (w .entry)) stamp)) (now (w .entry)) at r ⌝ }
+    ensures { λ r. ⌜ FormAt (g-minutes (on (now (w .entry)) hour) (stamped (now (w .entry)) stamp)) (now (w .entry)) at r ⌝ }
 {
     let e = digits_end(w, at);
     if !counts(1, 2, at, e) {
@@ -170,13 +170,13 @@ pub fn minutes(w: &[u8], stamp: Stamp, hour: Span, at: usize) -> Form
 fn time_at(w: &[u8], stamp: Stamp, at: usize) -> Form
     requires { ⌜ at ≤ length (now w) ⌝ }
     requires { ⌜ StampTo (now w) stamp at ⌝ }
-    ensures { λ r. ⌜ Reads (g-time (stamped (now (w .entry)) stamp)) (now (w .entry)) at r ⌝ }
+    ensures { λ r. ⌜ FormAt (g-time (stamped (now (w .entry)) stamp)) (now (w .entry)) at r ⌝ }
 {
     let e = digits_end(w, at);
     if !counts(1, 2, at, e) {
         return Form::NoForm;
     }
-    if byte_at(w, e) != 58 {
+    if byte_at(w, e) != b':' {
         return Form::NoForm;
     }
     minutes(w, stamp, Span { from: at, upto: e }, e + 1)
@@ -186,16 +186,16 @@ fn time_at(w: &[u8], stamp: Stamp, at: usize) -> Form
 fn dated(w: &[u8], date: Date, at: usize) -> Form
     requires { ⌜ at ≤ length (now w) ⌝ }
     requires { ⌜ DateTo (now w) date at ⌝ }
-    ensures { λ r. ⌜ Reads (g-dated (dateOf (now (w .entry)) date)) (now (w .entry)) at r ⌝ }
+    ensures { λ r. ⌜ FormAt (g-dated (dateOf (now (w .entry)) date)) (now (w .entry)) at r ⌝ }
 {
     if at == w.len() {
         return Form::Day(date);
     }
     let b = w[at];
-    if b == 84 {
+    if b == b'T' {
         return time_at(w, Stamp::Dated(date), at + 1);
     }
-    if b == 116 {
+    if b == b't' {
         return time_at(w, Stamp::Dated(date), at + 1);
     }
     Form::NoForm
@@ -205,7 +205,7 @@ fn dated(w: &[u8], date: Date, at: usize) -> Form
 fn month_day(w: &[u8], month: Span, at: usize) -> Form
     requires { ⌜ at ≤ length (now w) ⌝ }
     requires { ⌜ Behind (MonthTo (now w) month) at ⌝ }
-    ensures { λ r. ⌜ Reads (run digit (between 1 2) (inMonth (now (w .entry)) month)) (now (w .entry)) at r ⌝ }
+    ensures { λ r. ⌜ FormAt (run digit (between 1 2) (inMonth (now (w .entry)) month)) (now (w .entry)) at r ⌝ }
 {
     let e = digits_end(w, at);
     if !counts(1, 2, at, e) {
@@ -217,10 +217,10 @@ fn month_day(w: &[u8], month: Span, at: usize) -> Form
 // A date from the hyphen behind its year on, at the sixth byte.
 pub fn days(w: &[u8]) -> Form
     requires { ⌜ 5 ≤ length (now w) ⌝ }
-    ensures { λ r. ⌜ Reads (g-days (part (now (w .entry)) 0 4)) (now (w .entry)) 5 r ⌝ }
+    ensures { λ r. ⌜ FormAt (g-days (part (now (w .entry)) 0 4)) (now (w .entry)) 5 r ⌝ }
 {
     let e = digits_end(w, 5);
-    if byte_at(w, e) == 45 {
+    if byte_at(w, e) == b'-' {
         if !counts(1, 2, 5, e) {
             return Form::NoForm;
         }

@@ -10,7 +10,7 @@ use Rattle.rules.specs.Asked.{says, Texted, Sought, Viewed}
 use Rattle.rules.proofs.Reading.Reader.{answered-unique}
 use Rattle.rules.proofs.Written.Outcome.{writes-once}
 use Rattle.rules.proofs.Tables.Asked.{texted-once, viewed-once, sought-once}
-use Rattle.rows.specs.Rows.{span}
+use Rattle.classes.specs.Places.{asSpan}
 
 numbers : {c p n c′ p′ n′ : ℕ} → says c p n ≡ says c′ p′ n′ → (c ≡ c′) × (p ≡ p′) × (n ≡ n′)
 numbers e = (ap (λ (s : Said). s .code) e, ap (λ (s : Said). s .place) e, ap (λ (s : Said). s .size) e)
@@ -32,7 +32,7 @@ module _ {c p n c′ p′ n′ : ℕ} where
       (c ≡ c′) × (p ≡ p′) × (n ≡ n′)
   find-once {label} {lent} {name} {row} a b = numbers (sought-once label lent row name a b)
 
-pub name-once : {label lent : List ℕ} {row x y x′ y′ : ℕ} → Viewed label lent row (span x y) → Viewed label lent row (span x′ y′) → (x ≡ x′) × (y ≡ y′)
+pub name-once : {label lent : List ℕ} {row x y x′ y′ : ℕ} → Viewed label lent row (asSpan x y) → Viewed label lent row (asSpan x′ y′) → (x ≡ x′) × (y ≡ y′)
 name-once {label} {lent} {row} a b =
     let u = viewed-once label lent row a b in
     (ap (λ (s : rule.Span). s .from) u, ap (λ (s : rule.Span). s .upto) u)

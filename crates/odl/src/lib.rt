@@ -1,15 +1,15 @@
 // The C face of the library: each function thin over a proved one, under the name that include/odl.h declares. Code, place and length
 // are set on every call, and the contract says of them and of the lent room what the rules say.
-use asked::find;
-use asked::name_span;
-use asked::text;
+use queries::find;
+use queries::name_span;
+use queries::text;
 use statements::read;
 use writer::write;
 ghost use Rattle.rules.specs.Modes.{base};
 ghost use Rattle.rules.specs.Reading.{Answered};
 ghost use Rattle.rules.specs.Writing.{Writes};
 ghost use Rattle.rules.specs.Asked.{says, Texted, Sought, Viewed};
-ghost use Rattle.rows.specs.Rows.{span};
+ghost use Rattle.classes.specs.Places.{asSpan};
 
 #[no_mangle]
 pub extern "C" fn odl_read(
@@ -54,9 +54,9 @@ pub extern "C" fn odl_text(
     ensures { λ c. ⌜ Texted (now (label .entry)) (now (table .entry)) row (now (out .entry)) (says c (now (place .exit)) (now (length .exit))) (now (out .exit)) ⌝ }
 {
     let t = text(label, table, row, out);
-    *place = asked::text_place(t);
-    *length = asked::text_length(t);
-    asked::text_code(t)
+    *place = queries::text_place(t);
+    *length = queries::text_length(t);
+    queries::text_code(t)
 }
 
 #[no_mangle]
@@ -71,9 +71,9 @@ pub extern "C" fn odl_find(
     ensures { λ c. ⌜ Sought (now (label .entry)) (now (table .entry)) (now (name .entry)) row (says c (now (place .exit)) (now (at .exit))) ⌝ }
 {
     let f = find(label, table, name, row);
-    *place = asked::found_place(f);
-    *at = asked::found_row(f);
-    asked::found_code(f)
+    *place = queries::found_place(f);
+    *at = queries::found_row(f);
+    queries::found_code(f)
 }
 
 #[no_mangle]
@@ -84,7 +84,7 @@ pub extern "C" fn odl_name(
     start: &mut usize,
     end: &mut usize,
 )
-    ensures { λ _. ⌜ Viewed (now (label .entry)) (now (table .entry)) row (span (now (start .exit)) (now (end .exit))) ⌝ }
+    ensures { λ _. ⌜ Viewed (now (label .entry)) (now (table .entry)) row (asSpan (now (start .exit)) (now (end .exit))) ⌝ }
 {
     let s = name_span(label, table, row);
     *start = s.start;

@@ -9,11 +9,10 @@ use borrow.Author.Tests.{leb-true}
 use borrow.Rule.Slice.PartMut.{midOf, putMid}
 use lib.Dec.{leb}
 use lib.ListN.{length}
-use Rattle.rules.specs.Written.{unitsEnd, lead, lineBreak, indent, newLine, opSign}
-use Rattle.rows.specs.Rows.{opOf}
-use Rattle.rows.specs.declared.Op.{Op}
-use Rattle.parts.specs.Puts.{Puts}
-use Rattle.parts.proofs.Laws.{nothing, same-part, long, onward}
+use Rattle.rules.specs.Written.{unitsEnd, lead, lineBreak, indent, newLine}
+use Rattle.rows.specs.Rows.{deepest}
+use Rattle.output.specs.Puts.{Puts}
+use Rattle.output.proofs.Laws.{nothing, same-part, long, onward}
 use Rattle.printing.specs.Lines.{priorOf}
 use Rattle.printing.specs.declared.Prior.{Prior}
 
@@ -29,9 +28,6 @@ module _ {x y : List ℕ} {n : ℕ} where
 
   pub break-is : {q w : Prior} → q ≡ w → Puts (lineBreak (priorOf w)) x y n → leb (length (lineBreak (priorOf w))) 2 ≡ true → Puts (lineBreak (priorOf q)) x y n × (n ≤ 2)
   break-is h p l = (rw h p, short 2 p l)
-
-  pub op-is : {q w : Op} → q ≡ w → Puts (opSign (opOf w)) x y n → leb (length (opSign (opOf w))) 2 ≡ true → Puts (opSign (opOf q)) x y n × (n ≤ 2)
-  op-is h p l = (rw h p, short 2 p l)
 
 -- ---- indents
 
@@ -57,7 +53,7 @@ pub indent-turn : (d : ℕ) (room out p : List ℕ) (n m k i : ℕ) → Indentin
     Indenting d room (putMid k (length out - k) out p) (n + m) (i + 1)
 indent-turn d room out p n m k i v h e f = record { within = omega arith; size = omega (arith, v .size, f .count); puts = same-part (sym (deeper i)) (onward (v .puts) e f); same = long (onward (v .puts) e f) }
 
-pub indent-end : (d : ℕ) (room out : List ℕ) (n i : ℕ) → Indenting d room out n i → d ≤ i → d ≤ 80 → Puts (indent d) room out n × (n ≤ 160)
+pub indent-end : (d : ℕ) (room out : List ℕ) (n i : ℕ) → Indenting d room out n i → d ≤ i → d ≤ deepest → Puts (indent d) room out n × (n ≤ 160)
 indent-end d room out n i v h b =
     let e : i ≡ d = omega (arith, v .within) in
     (rw (← e) (v .puts), omega (arith, v .size, v .within))

@@ -1,5 +1,5 @@
 -- Statements and blocks: a row's line within so many blocks.
-use Prim.Native.Nat.{ℕ, _+_, _-_, _≤_}
+use Prim.Native.Nat.{ℕ, _-_, _≤_}
 use mathlib.Core.Bool.{true, false, cond}
 use mathlib.Core.Path.{_≡_, sym}
 use mathlib.Core.List.{List, [], _∷_, _++_, append-nil, map}
@@ -12,9 +12,9 @@ use Rattle.rules.specs.Data.{Opens, outside, inside, depth, attribute, pointer,
 use Rattle.rules.specs.Written.{unitsEnd, newLine, openWord, closeWord, writes}
 use Rattle.rows.specs.Rows.{kindOf}
 use Rattle.rows.specs.declared.Kind.{Kind}
-use Rattle.parts.specs.Puts.{Puts}
-use Rattle.parts.proofs.Laws.{same-part}
-use Rattle.printing.specs.Lines.{priorOf, Innermost, Writes, Closes}
+use Rattle.output.specs.Puts.{Puts}
+use Rattle.output.proofs.Laws.{same-part}
+use Rattle.printing.specs.Lines.{priorOf, rowBound, Innermost, HeadingPut, ClosePut}
 use Rattle.printing.specs.declared.Prior.{Prior}
 use Rattle.printing.proofs.Between.{short}
 
@@ -33,21 +33,21 @@ module _ {x y : List ℕ} {n : ℕ} where
   close-named k d w h p = rw (ne-eqb d 0 h) p
 
   module _ (q : Prior) (d : ℕ) where
-    pub attribute-row : (w : List ℕ) → Puts (unitsEnd (priorOf q) ++ (newLine (priorOf q) d ++ (map fold w ++ ascii " ="))) x y n → n ≤ 200000 → Writes (priorOf q) d (attribute (map fold w)) x y n
+    pub attribute-row : (w : List ℕ) → Puts (unitsEnd (priorOf q) ++ (newLine (priorOf q) d ++ (map fold w ++ ascii " ="))) x y n → n ≤ rowBound → HeadingPut (priorOf q) d (attribute (map fold w)) x y n
     attribute-row w p m = record { puts = λ o e. rw e p; most = m }
 
-    pub pointer-row : (w : List ℕ) → Puts (unitsEnd (priorOf q) ++ (newLine (priorOf q) d ++ (94 ∷ (map fold w ++ ascii " =")))) x y n → n ≤ 200000 → Writes (priorOf q) d (pointer (map fold w)) x y n
+    pub pointer-row : (w : List ℕ) → Puts (unitsEnd (priorOf q) ++ (newLine (priorOf q) d ++ (94 ∷ (map fold w ++ ascii " =")))) x y n → n ≤ rowBound → HeadingPut (priorOf q) d (pointer (map fold w)) x y n
     pointer-row w p m = record { puts = λ o e. rw e p; most = m }
 
-    pub open-row : (k : Kind) (w : List ℕ) → Puts (unitsEnd (priorOf q) ++ (newLine (priorOf q) d ++ (openWord (kindOf k) ++ (ascii " = " ++ map fold w)))) x y n → n ≤ 200000 →
-        Writes (priorOf q) d (opened (kindOf k) (map fold w)) x y n
+    pub open-row : (k : Kind) (w : List ℕ) → Puts (unitsEnd (priorOf q) ++ (newLine (priorOf q) d ++ (openWord (kindOf k) ++ (ascii " = " ++ map fold w)))) x y n → n ≤ rowBound →
+        HeadingPut (priorOf q) d (opened (kindOf k) (map fold w)) x y n
     open-row k w p m = record { puts = λ o e. rw e p; most = m }
 
-    pub end-row : Puts (unitsEnd (priorOf q) ++ (newLine (priorOf q) d ++ ascii "END")) x y n → n ≤ 200000 → Writes (priorOf q) d (last tt) x y n
+    pub end-row : Puts (unitsEnd (priorOf q) ++ (newLine (priorOf q) d ++ ascii "END")) x y n → n ≤ rowBound → HeadingPut (priorOf q) d (last tt) x y n
     end-row p m = record { puts = λ o e. rw e p; most = m }
 
     pub close-row : (k : Kind) (w : List ℕ) {e : ℕ} → e ≡ d - 1 → Puts (unitsEnd (priorOf q) ++ (newLine (priorOf q) e ++ (closeWord (kindOf k) ++ cond (eqb d 0) [] (ascii " = " ++ map fold w)))) x y n →
-        n ≤ 200000 → Closes (priorOf q) d (map fold w) (kindOf k) x y n
+        n ≤ rowBound → ClosePut (priorOf q) d (map fold w) (kindOf k) x y n
     close-row k w {e} h p m = record { puts = λ o s. go o (s .deep) (s .named); most = m }
       where
         go : (o : Opens) → depth o ≡ d → Innermost (map fold w) o → Puts (writes (priorOf q) o (closed (kindOf k))) x y n

@@ -1,7 +1,4 @@
 -- What the proofs of this crate share.
-pub mod Chains
-pub mod Digits
-pub mod Moments
 pub mod Between
 pub mod Symbols
 pub mod Blocks

@@ -1,5 +1,5 @@
--- No second outcome meets the contract of a row's writing, nor that of what the row leaves: for every number of blocks and every name there are blocks that are
--- seen so, and what is written within them decides the count and the room's last bytes.
+-- No second outcome meets the contract of a row's writing, nor that of what the row leaves: for every number of blocks and every name there are such
+-- blocks, and what is written within them decides the count and the room's last bytes.
 use Prim.Native.Nat.{ℕ, zero, suc}
 use mathlib.Core.Path.{_≡_, refl, sym, ap, _∙_}
 use mathlib.Core.List.{List, []}
@@ -7,8 +7,8 @@ use Rattle.rules.specs.Data.{Kind, object, Opens, outside, inside, depth}
 use Rattle.rules.specs.Meaning.{Sense}
 use Rattle.rules.specs.Written as rule
 use Rattle.rows.specs.declared.Row.{Row}
-use Rattle.parts.proofs.Once.{puts-once}
-use Rattle.printing.specs.Lines.{priorOf, Sees, Writes, Closes, RowPut, Leaves}
+use Rattle.output.proofs.Once.{puts-once}
+use Rattle.printing.specs.Lines.{priorOf, Enclosed, HeadingPut, ClosePut, RowPut, PriorAfter}
 use Rattle.printing.specs.declared.Prior.{Prior}
 use Rattle.printing.specs.declared.Prior.the-variants as priors
 
@@ -22,19 +22,19 @@ within-deep zero = refl
 within-deep (suc d) = ap suc (within-deep d)
 
 -- so many blocks, the innermost of this name
-seen : (d : ℕ) (top : List ℕ) → (o : Opens) × Sees o d top
-seen zero top = (outside, record { deep = refl; named = tt })
-seen (suc d) top = (inside object top (within d), record { deep = ap suc (within-deep d); named = refl })
+enclosing : (d : ℕ) (top : List ℕ) → (o : Opens) × Enclosed o d top
+enclosing zero top = (outside, record { deep = refl; named = tt })
+enclosing (suc d) top = (inside object top (within d), record { deep = ap suc (within-deep d); named = refl })
 
 module _ {q : rule.Prior} {d : ℕ} {room a b : List ℕ} {n m : ℕ} where
-  pub writes-once : {s : Sense} → Writes q d s room a n → Writes q d s room b m → (n ≡ m) × (a ≡ b)
-  writes-once u v = puts-once (u .puts (within d) (within-deep d)) (v .puts (within d) (within-deep d))
+  pub heading-once : {s : Sense} → HeadingPut q d s room a n → HeadingPut q d s room b m → (n ≡ m) × (a ≡ b)
+  heading-once u v = puts-once (u .puts (within d) (within-deep d)) (v .puts (within d) (within-deep d))
 
-  pub closes-once : {top : List ℕ} {k : Kind} → Closes q d top k room a n → Closes q d top k room b m → (n ≡ m) × (a ≡ b)
-  closes-once {top} u v = let o = seen d top in puts-once (u .puts (o .0) (o .1)) (v .puts (o .0) (o .1))
+  pub close-once : {top : List ℕ} {k : Kind} → ClosePut q d top k room a n → ClosePut q d top k room b m → (n ≡ m) × (a ≡ b)
+  close-once {top} u v = let o = enclosing d top in puts-once (u .puts (o .0) (o .1)) (v .puts (o .0) (o .1))
 
   pub row-once : {given top : List ℕ} {row : Row} → RowPut given q d top row room a n → RowPut given q d top row room b m → (n ≡ m) × (a ≡ b)
-  row-once {top = top} u v = let o = seen d top in puts-once (u .puts (o .0) (o .1)) (v .puts (o .0) (o .1))
+  row-once {top = top} u v = let o = enclosing d top in puts-once (u .puts (o .0) (o .1)) (v .puts (o .0) (o .1))
 
 -- the code's own name of what a row leaves
 abbrev ofRule : rule.Prior → Prior
@@ -51,5 +51,5 @@ again priors.Member = refl
 again priors.Factor = refl
 again priors.Bracket = refl
 
-pub leaves-once : {q : rule.Prior} {row : Row} {u v : Prior} → Leaves q row (priorOf u) → Leaves q row (priorOf v) → u ≡ v
-leaves-once {u = u} {v = v} x y = sym (again u) ∙ ap ofRule (x .is ∙ sym (y .is)) ∙ again v
+pub leaves-once : {row : Row} {u v : Prior} → PriorAfter row (priorOf u) → PriorAfter row (priorOf v) → u ≡ v
+leaves-once {u = u} {v = v} x y = sym (again u) ∙ ap ofRule (x .is [] ∙ sym (y .is [])) ∙ again v

@@ -1,3 +1,2 @@
 -- The terms of this crate's contracts.
 pub mod Lines
-pub mod Counts

@@ -1,28 +1,29 @@
 // The rows that begin a line: names, blocks and END. Each at the start of the room that is lent.
 use crate::Prior;
 use crate::lines::put_line;
-use parts::least;
-use parts::put_byte;
-use parts::put_bytes;
-use parts::put_folded;
+use classes::least;
+use classes::less_one;
+use output::put_byte;
+use output::put_bytes;
+use output::put_folded;
 use rows::Kind;
-ghost use mathlib.Core.Path.{_≡_};
 ghost use mathlib.Core.Bool.{cond};
-ghost use mathlib.Core.List.{_∷_, _++_, [], map};
-ghost use Prim.Native.Nat.{_≤_, _-_};
+ghost use mathlib.Core.List.{_++_, [], map};
+ghost use Prim.Native.Nat.{_≤_};
 ghost use lib.Dec.{eqb};
 ghost use lib.ListN.{length};
 ghost use Rattle.rules.specs.Bytes.{ascii, fold};
 ghost use Rattle.rules.specs.Data.{attribute, pointer, opened, last};
+ghost use Rattle.rules.specs.Reading.{longest};
 ghost use Rattle.rules.specs.Written.{openWord, closeWord};
-ghost use Rattle.rows.specs.Rows.{kindOf};
-ghost use Rattle.parts.specs.Puts.{Puts};
-ghost use Rattle.printing.specs.Lines.{priorOf, Writes, Closes};
+ghost use Rattle.rows.specs.Rows.{kindOf, deepest};
+ghost use Rattle.output.specs.Puts.{Puts};
+ghost use Rattle.printing.specs.Lines.{priorOf, HeadingPut, ClosePut};
 
 // `NAME =`
 fn put_named(out: &mut [u8], w: &[u8]) -> usize
-    requires { ⌜ length (now w) ≤ 65535 ⌝ }
-    ensures { λ r. ⌜ Puts (map fold (now (w .entry)) ++ (32 ∷ 61 ∷ [])) (now (out .entry)) (now (out .exit)) r × (r ≤ 65537) ⌝ }
+    requires { ⌜ length (now w) ≤ longest ⌝ }
+    ensures { λ r. ⌜ Puts (map fold (now (w .entry)) ++ ascii " =") (now (out .entry)) (now (out .exit)) r × (r ≤ 65537) ⌝ }
 {
     let a = put_folded(out, w);
     let k = least(a, out.len());
@@ -32,8 +33,8 @@ fn put_named(out: &mut [u8], w: &[u8]) -> usize
 
 // `^NAME =`
 fn put_pointed(out: &mut [u8], w: &[u8]) -> usize
-    requires { ⌜ length (now w) ≤ 65535 ⌝ }
-    ensures { λ r. ⌜ Puts (94 ∷ (map fold (now (w .entry)) ++ (32 ∷ 61 ∷ []))) (now (out .entry)) (now (out .exit)) r × (r ≤ 65538) ⌝ }
+    requires { ⌜ length (now w) ≤ longest ⌝ }
+    ensures { λ r. ⌜ Puts (ascii "^" ++ (map fold (now (w .entry)) ++ ascii " =")) (now (out .entry)) (now (out .exit)) r × (r ≤ 65538) ⌝ }
 {
     let a = put_byte(out, b'^');
     let k = least(a, out.len());
@@ -42,8 +43,8 @@ fn put_pointed(out: &mut [u8], w: &[u8]) -> usize
 }
 
 pub fn put_attribute(out: &mut [u8], q: Prior, d: usize, w: &[u8]) -> usize
-    requires { ⌜ (d ≤ 80) × (length (now w) ≤ 65535) ⌝ }
-    ensures { λ r. ⌜ Writes (priorOf q) d (attribute (map fold (now (w .entry)))) (now (out .entry)) (now (out .exit)) r ⌝ }
+    requires { ⌜ (d ≤ deepest) × (length (now w) ≤ longest) ⌝ }
+    ensures { λ r. ⌜ HeadingPut (priorOf q) d (attribute (map fold (now (w .entry)))) (now (out .entry)) (now (out .exit)) r ⌝ }
 {
     let a = put_line(out, q, d);
     let k = least(a, out.len());
@@ -52,8 +53,8 @@ pub fn put_attribute(out: &mut [u8], q: Prior, d: usize, w: &[u8]) -> usize
 }
 
 pub fn put_pointer(out: &mut [u8], q: Prior, d: usize, w: &[u8]) -> usize
-    requires { ⌜ (d ≤ 80) × (length (now w) ≤ 65535) ⌝ }
-    ensures { λ r. ⌜ Writes (priorOf q) d (pointer (map fold (now (w .entry)))) (now (out .entry)) (now (out .exit)) r ⌝ }
+    requires { ⌜ (d ≤ deepest) × (length (now w) ≤ longest) ⌝ }
+    ensures { λ r. ⌜ HeadingPut (priorOf q) d (pointer (map fold (now (w .entry)))) (now (out .entry)) (now (out .exit)) r ⌝ }
 {
     let a = put_line(out, q, d);
     let k = least(a, out.len());
@@ -81,7 +82,7 @@ fn put_close_word(out: &mut [u8], kind: Kind) -> usize
 
 // ` = NAME`
 fn put_naming(out: &mut [u8], w: &[u8]) -> usize
-    requires { ⌜ length (now w) ≤ 65535 ⌝ }
+    requires { ⌜ length (now w) ≤ longest ⌝ }
     ensures { λ r. ⌜ Puts (ascii " = " ++ map fold (now (w .entry))) (now (out .entry)) (now (out .exit)) r × (r ≤ 65538) ⌝ }
 {
     let a = put_bytes(out, b" = ");
@@ -92,7 +93,7 @@ fn put_naming(out: &mut [u8], w: &[u8]) -> usize
 
 // `OBJECT = NAME`
 fn put_opening(out: &mut [u8], kind: Kind, w: &[u8]) -> usize
-    requires { ⌜ length (now w) ≤ 65535 ⌝ }
+    requires { ⌜ length (now w) ≤ longest ⌝ }
     ensures { λ r. ⌜ Puts (openWord (kindOf kind) ++ (ascii " = " ++ map fold (now (w .entry)))) (now (out .entry)) (now (out .exit)) r × (r ≤ 65550) ⌝ }
 {
     let a = put_open_word(out, kind);
@@ -102,8 +103,8 @@ fn put_opening(out: &mut [u8], kind: Kind, w: &[u8]) -> usize
 }
 
 pub fn put_open(out: &mut [u8], q: Prior, d: usize, kind: Kind, w: &[u8]) -> usize
-    requires { ⌜ (d ≤ 80) × (length (now w) ≤ 65535) ⌝ }
-    ensures { λ r. ⌜ Writes (priorOf q) d (opened (kindOf kind) (map fold (now (w .entry)))) (now (out .entry)) (now (out .exit)) r ⌝ }
+    requires { ⌜ (d ≤ deepest) × (length (now w) ≤ longest) ⌝ }
+    ensures { λ r. ⌜ HeadingPut (priorOf q) d (opened (kindOf kind) (map fold (now (w .entry)))) (now (out .entry)) (now (out .exit)) r ⌝ }
 {
     let a = put_line(out, q, d);
     let k = least(a, out.len());
@@ -113,7 +114,7 @@ pub fn put_open(out: &mut [u8], q: Prior, d: usize, kind: Kind, w: &[u8]) -> usi
 
 // `END_OBJECT = NAME`, or the word alone where no block is open.
 fn put_closing(out: &mut [u8], d: usize, kind: Kind, w: &[u8]) -> usize
-    requires { ⌜ length (now w) ≤ 65535 ⌝ }
+    requires { ⌜ length (now w) ≤ longest ⌝ }
     ensures { λ r. ⌜ Puts (closeWord (kindOf kind) ++ cond (eqb d 0) [] (ascii " = " ++ map fold (now (w .entry)))) (now (out .entry)) (now (out .exit)) r × (r ≤ 65550) ⌝ }
 {
     if d == 0 {
@@ -125,18 +126,12 @@ fn put_closing(out: &mut [u8], d: usize, kind: Kind, w: &[u8]) -> usize
     a + m
 }
 
-fn outer(d: usize) -> usize
-    ensures { λ r. ⌜ r ≡ d - 1 ⌝ }
-{
-    if d == 0 { 0 } else { d - 1 }
-}
-
 // The closing line of the innermost of d blocks, whose name is w.
 pub fn put_close(out: &mut [u8], q: Prior, d: usize, kind: Kind, w: &[u8]) -> usize
-    requires { ⌜ (d ≤ 80) × (length (now w) ≤ 65535) ⌝ }
-    ensures { λ r. ⌜ Closes (priorOf q) d (map fold (now (w .entry))) (kindOf kind) (now (out .entry)) (now (out .exit)) r ⌝ }
+    requires { ⌜ (d ≤ deepest) × (length (now w) ≤ longest) ⌝ }
+    ensures { λ r. ⌜ ClosePut (priorOf q) d (map fold (now (w .entry))) (kindOf kind) (now (out .entry)) (now (out .exit)) r ⌝ }
 {
-    let e = outer(d);
+    let e = less_one(d);
     let a = put_line(out, q, e);
     let k = least(a, out.len());
     let m = put_closing(&mut out[k..], d, kind, w);
@@ -144,8 +139,8 @@ pub fn put_close(out: &mut [u8], q: Prior, d: usize, kind: Kind, w: &[u8]) -> us
 }
 
 pub fn put_end(out: &mut [u8], q: Prior, d: usize) -> usize
-    requires { ⌜ d ≤ 80 ⌝ }
-    ensures { λ r. ⌜ Writes (priorOf q) d (last tt) (now (out .entry)) (now (out .exit)) r ⌝ }
+    requires { ⌜ d ≤ deepest ⌝ }
+    ensures { λ r. ⌜ HeadingPut (priorOf q) d (last tt) (now (out .entry)) (now (out .exit)) r ⌝ }
 {
     let a = put_line(out, q, d);
     let k = least(a, out.len());

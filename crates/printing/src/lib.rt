@@ -1,10 +1,9 @@
 // The written label: what each row writes after the row before it.
-mod numbers; // numbers.rt: numbers in decimal
-mod times; // times.rt: dates and times
 mod lines; // lines.rt: what stands between rows
 mod values; // values.rt: the rows of values
 mod headings; // headings.rt: the rows that begin a line: names, blocks and END
 
+use classes::part;
 use headings::put_attribute;
 use headings::put_close;
 use headings::put_end;
@@ -21,14 +20,14 @@ use values::put_symbol;
 use values::put_text;
 use values::put_unit;
 use values::put_when;
-ghost use mathlib.Core.Path.{_≡_};
 ghost use mathlib.Core.List.{map};
 ghost use Prim.Native.Nat.{_≤_};
 ghost use lib.ListN.{length};
 ghost use Rattle.rules.specs.Bytes.{fold};
-ghost use Rattle.rules.specs.Proper.{stretch};
-ghost use Rattle.rows.specs.Rows.{span};
-ghost use Rattle.printing.specs.Lines.{priorOf, RowPut, Leaves};
+ghost use Rattle.rules.specs.Reading.{longest};
+ghost use Rattle.classes.specs.Places.{part};
+ghost use Rattle.rows.specs.Rows.{deepest};
+ghost use Rattle.printing.specs.Lines.{priorOf, RowPut, PriorAfter};
 
 // What the row before leaves: nothing yet, in the label or in its bracket; a line's heading; a scalar; a unit; a closing bracket.
 pub enum Prior {
@@ -39,34 +38,11 @@ pub enum Prior {
     Bracket,
 }
 
-// Decimals: how many, and the number that they are the digits of.
-pub struct Fraction {
-    pub size: usize,
-    pub value: u64,
-}
-
-// The bytes of a span, as far as they lie inside.
-fn part_of<'a>(s: &'a [u8], a: usize, b: usize) -> &'a [u8]
-    ensures { λ r. ⌜ (now r ≡ stretch (now (s .entry)) (span a b)) × (length (now r) ≤ length (now (s .entry))) ⌝ }
-{
-    if b < a {
-        return &s[..0];
-    }
-    if s.len() < a {
-        return &s[..0];
-    }
-    if s.len() < b {
-        return &s[a..];
-    }
-    &s[a..b]
-}
-
 // What a row is to the row after it.
-pub fn prior_after(q: Prior, row: Row) -> Prior
-    ensures { λ r. ⌜ Leaves (priorOf q) row (priorOf r) ⌝ }
+pub fn prior_of(row: Row) -> Prior
+    ensures { λ r. ⌜ PriorAfter row (priorOf r) ⌝ }
 {
     match row {
-        Row::Nothing => q,
         Row::Attribute(_, _) => Prior::Heading,
         Row::Pointer(_, _) => Prior::Heading,
         Row::Open(_, _, _) => Prior::Heading,
@@ -82,7 +58,6 @@ pub fn prior_after(q: Prior, row: Row) -> Prior
         Row::Set => Prior::Start,
         Row::SetEnd => Prior::Bracket,
         Row::Last(_) => Prior::Heading,
-        Row::Stop(_, _) => q,
     }
 }
 
@@ -96,26 +71,24 @@ pub fn put_row(
     to: usize,
     row: Row,
 ) -> usize
-    requires { ⌜ (d ≤ 80) × (length (now label) ≤ 65535) ⌝ }
-    ensures { λ r. ⌜ RowPut (now (label .entry)) (priorOf q) d (map fold (stretch (now (label .entry)) (span from to))) row (now (out .entry)) (now (out .exit)) r ⌝ }
+    requires { ⌜ (d ≤ deepest) × (length (now label) ≤ longest) ⌝ }
+    ensures { λ r. ⌜ RowPut (now (label .entry)) (priorOf q) d (map fold (part (now (label .entry)) from to)) row (now (out .entry)) (now (out .exit)) r ⌝ }
 {
     match row {
-        Row::Nothing => 0,
-        Row::Attribute(a, b) => put_attribute(out, q, d, part_of(label, a, b)),
-        Row::Pointer(a, b) => put_pointer(out, q, d, part_of(label, a, b)),
-        Row::Open(k, a, b) => put_open(out, q, d, k, part_of(label, a, b)),
-        Row::Close(k) => put_close(out, q, d, k, part_of(label, from, to)),
+        Row::Attribute(a, b) => put_attribute(out, q, d, part(label, a, b)),
+        Row::Pointer(a, b) => put_pointer(out, q, d, part(label, a, b)),
+        Row::Open(k, a, b) => put_open(out, q, d, k, part(label, a, b)),
+        Row::Close(k) => put_close(out, q, d, k, part(label, from, to)),
         Row::Integer(m, v) => put_integer(out, q, m, v),
         Row::Float(x) => put_float(out, q, x),
         Row::Time(x) => put_when(out, q, x),
-        Row::Text(a, b) => put_text(out, q, part_of(label, a, b)),
-        Row::Symbol(a, b) => put_symbol(out, q, part_of(label, a, b)),
-        Row::Unit(op, a, b, m, v) => put_unit(out, q, op, part_of(label, a, b), m, v),
+        Row::Text(a, b) => put_text(out, q, part(label, a, b)),
+        Row::Symbol(a, b) => put_symbol(out, q, part(label, a, b)),
+        Row::Unit(op, a, b, m, v) => put_unit(out, q, op, part(label, a, b), m, v),
         Row::Sequence => put_sequence(out, q),
         Row::SequenceEnd => put_sequence_end(out, q),
         Row::Set => put_set(out, q),
         Row::SetEnd => put_set_end(out, q),
         Row::Last(_) => put_end(out, q, d),
-        Row::Stop(_, _) => 0,
     }
 }

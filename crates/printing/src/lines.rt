@@ -1,12 +1,14 @@
 // What stands between one row and the next: the end of units, commas, line ends and indents. Each at the start of the room that is lent.
 use crate::Prior;
-use parts::least;
-use parts::put_byte;
-use parts::put_bytes;
-ghost use mathlib.Core.List.{_++_, _∷_, []};
+use classes::least;
+use output::put_byte;
+use output::put_bytes;
+ghost use mathlib.Core.List.{_++_};
 ghost use Prim.Native.Nat.{_≤_};
+ghost use Rattle.rules.specs.Bytes.{ascii};
 ghost use Rattle.rules.specs.Written.{unitsEnd, betweenRows, lead, lineBreak, indent, newLine};
-ghost use Rattle.parts.specs.Puts.{Puts};
+ghost use Rattle.rows.specs.Rows.{deepest};
+ghost use Rattle.output.specs.Puts.{Puts};
 ghost use Rattle.printing.specs.Lines.{priorOf};
 
 // The last unit is closed by whatever row comes next.
@@ -64,13 +66,13 @@ fn put_line_break(out: &mut [u8], q: Prior) -> usize
 }
 
 fn put_step(out: &mut [u8]) -> usize
-    ensures { λ r. ⌜ Puts (32 ∷ 32 ∷ []) (now (out .entry)) (now (out .exit)) r ⌝ }
+    ensures { λ r. ⌜ Puts (ascii "  ") (now (out .entry)) (now (out .exit)) r ⌝ }
 {
     put_bytes(out, b"  ")
 }
 
 fn put_indent(out: &mut [u8], d: usize) -> usize
-    requires { ⌜ d ≤ 80 ⌝ }
+    requires { ⌜ d ≤ deepest ⌝ }
     ensures { λ r. ⌜ Puts (indent d) (now (out .entry)) (now (out .exit)) r × (r ≤ 160) ⌝ }
 {
     let mut n = 0;
@@ -85,7 +87,7 @@ fn put_indent(out: &mut [u8], d: usize) -> usize
 
 // All that stands before a statement's first word, d blocks deep.
 pub fn put_line(out: &mut [u8], q: Prior, d: usize) -> usize
-    requires { ⌜ d ≤ 80 ⌝ }
+    requires { ⌜ d ≤ deepest ⌝ }
     ensures { λ r. ⌜ Puts (unitsEnd (priorOf q) ++ newLine (priorOf q) d) (now (out .entry)) (now (out .exit)) r × (r ≤ 163) ⌝ }
 {
     let a = put_units_end(out, q);

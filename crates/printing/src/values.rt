@@ -2,34 +2,34 @@
 use crate::Prior;
 use crate::lines::put_lead;
 use crate::lines::put_units_end;
-use crate::numbers::put_decimal;
-use crate::numbers::put_real;
-use crate::times::put_moment;
-use parts::least;
-use parts::put_byte;
-use parts::put_bytes;
-use parts::put_folded;
-use parts::put_reassembled;
+use classes::least;
+use numerals::put_decimal;
+use numerals::put_moment;
+use numerals::put_real;
+use output::put_byte;
+use output::put_bytes;
+use output::put_folded;
+use output::put_reassembled;
 use rows::Op;
 use words::Moment;
 use words::Real;
-use words::Value;
-use words::word;
+use words::is_name;
 ghost use mathlib.Core.Path.{_≡_};
-ghost use mathlib.Core.List.{_∷_, _++_, [], map};
+ghost use mathlib.Core.List.{_++_, map};
 ghost use Prim.Native.Nat.{_≤_};
 ghost use lib.ListN.{length};
-ghost use Rattle.rules.specs.Bytes.{fold};
+ghost use Rattle.rules.specs.Bytes.{ascii, fold};
 ghost use Rattle.rules.specs.Data.{outside, an-integer, a-real, a-moment, a-text, a-symbol, a-unit, sequence, sequence-end, set, set-end};
 ghost use Rattle.rules.specs.Meaning.{reassemble};
-ghost use Rattle.rules.specs.Written.{isName, symbolBytes, isOne, opSign, exponentBytes, writes};
+ghost use Rattle.rules.specs.Reading.{longest};
+ghost use Rattle.rules.specs.Written.{symbolBytes, isOne, opSign, exponentBytes, writes};
 ghost use Rattle.words.specs.Says.{whole, realOf, momentOf};
 ghost use Rattle.rows.specs.Rows.{opOf};
-ghost use Rattle.parts.specs.Puts.{Puts};
-ghost use Rattle.printing.specs.Lines.{priorOf};
+ghost use Rattle.output.specs.Puts.{Puts};
+ghost use Rattle.printing.specs.Lines.{priorOf, rowBound};
 
 pub fn put_integer(out: &mut [u8], q: Prior, minus: bool, n: u64) -> usize
-    ensures { λ r. ⌜ Puts (writes (priorOf q) outside (an-integer (whole minus n))) (now (out .entry)) (now (out .exit)) r × (r ≤ 200000) ⌝ }
+    ensures { λ r. ⌜ Puts (writes (priorOf q) outside (an-integer (whole minus n))) (now (out .entry)) (now (out .exit)) r × (r ≤ rowBound) ⌝ }
 {
     let a = put_lead(out, q);
     let k = least(a, out.len());
@@ -38,7 +38,7 @@ pub fn put_integer(out: &mut [u8], q: Prior, minus: bool, n: u64) -> usize
 }
 
 pub fn put_float(out: &mut [u8], q: Prior, x: Real) -> usize
-    ensures { λ r. ⌜ Puts (writes (priorOf q) outside (a-real (realOf x))) (now (out .entry)) (now (out .exit)) r × (r ≤ 200000) ⌝ }
+    ensures { λ r. ⌜ Puts (writes (priorOf q) outside (a-real (realOf x))) (now (out .entry)) (now (out .exit)) r × (r ≤ rowBound) ⌝ }
 {
     let a = put_lead(out, q);
     let k = least(a, out.len());
@@ -47,7 +47,7 @@ pub fn put_float(out: &mut [u8], q: Prior, x: Real) -> usize
 }
 
 pub fn put_when(out: &mut [u8], q: Prior, x: Moment) -> usize
-    ensures { λ r. ⌜ Puts (writes (priorOf q) outside (a-moment (momentOf x))) (now (out .entry)) (now (out .exit)) r × (r ≤ 200000) ⌝ }
+    ensures { λ r. ⌜ Puts (writes (priorOf q) outside (a-moment (momentOf x))) (now (out .entry)) (now (out .exit)) r × (r ≤ rowBound) ⌝ }
 {
     let a = put_lead(out, q);
     let k = least(a, out.len());
@@ -57,8 +57,8 @@ pub fn put_when(out: &mut [u8], q: Prior, x: Moment) -> usize
 
 // A text reassembled, in its quotes.
 fn put_quoted(out: &mut [u8], w: &[u8]) -> usize
-    requires { ⌜ length (now w) ≤ 65535 ⌝ }
-    ensures { λ r. ⌜ Puts (34 ∷ (reassemble (now (w .entry)) ++ (34 ∷ []))) (now (out .entry)) (now (out .exit)) r × (r ≤ 65537) ⌝ }
+    requires { ⌜ length (now w) ≤ longest ⌝ }
+    ensures { λ r. ⌜ Puts (ascii "\"" ++ (reassemble (now (w .entry)) ++ ascii "\"")) (now (out .entry)) (now (out .exit)) r × (r ≤ 65537) ⌝ }
 {
     let a = put_byte(out, b'"');
     let k = least(a, out.len());
@@ -69,8 +69,8 @@ fn put_quoted(out: &mut [u8], w: &[u8]) -> usize
 }
 
 pub fn put_text(out: &mut [u8], q: Prior, w: &[u8]) -> usize
-    requires { ⌜ length (now w) ≤ 65535 ⌝ }
-    ensures { λ r. ⌜ Puts (writes (priorOf q) outside (a-text (reassemble (now (w .entry))))) (now (out .entry)) (now (out .exit)) r × (r ≤ 200000) ⌝ }
+    requires { ⌜ length (now w) ≤ longest ⌝ }
+    ensures { λ r. ⌜ Puts (writes (priorOf q) outside (a-text (reassemble (now (w .entry))))) (now (out .entry)) (now (out .exit)) r × (r ≤ rowBound) ⌝ }
 {
     let a = put_lead(out, q);
     let k = least(a, out.len());
@@ -78,27 +78,9 @@ pub fn put_text(out: &mut [u8], q: Prior, w: &[u8]) -> usize
     a + m
 }
 
-fn is_name(w: &[u8]) -> bool
-    requires { ⌜ length (now w) ≤ 65535 ⌝ }
-    ensures { λ r. ⌜ r ≡ isName (now (w .entry)) ⌝ }
-{
-    let v = word(w);
-    match v {
-        Value::Name => true,
-        Value::End => false,
-        Value::The(_) => false,
-        Value::Integer(_, _) => false,
-        Value::Based(_, _) => false,
-        Value::Float(_) => false,
-        Value::Time(_) => false,
-        Value::Past => false,
-        Value::NoForm => false,
-    }
-}
-
 // A symbol, bare or in apostrophes.
 fn put_marked(out: &mut [u8], w: &[u8]) -> usize
-    requires { ⌜ length (now w) ≤ 65535 ⌝ }
+    requires { ⌜ length (now w) ≤ longest ⌝ }
     ensures { λ r. ⌜ Puts (symbolBytes (map fold (now (w .entry)))) (now (out .entry)) (now (out .exit)) r × (r ≤ 65537) ⌝ }
 {
     if is_name(w) {
@@ -113,8 +95,8 @@ fn put_marked(out: &mut [u8], w: &[u8]) -> usize
 }
 
 pub fn put_symbol(out: &mut [u8], q: Prior, w: &[u8]) -> usize
-    requires { ⌜ length (now w) ≤ 65535 ⌝ }
-    ensures { λ r. ⌜ Puts (writes (priorOf q) outside (a-symbol (map fold (now (w .entry))))) (now (out .entry)) (now (out .exit)) r × (r ≤ 200000) ⌝ }
+    requires { ⌜ length (now w) ≤ longest ⌝ }
+    ensures { λ r. ⌜ Puts (writes (priorOf q) outside (a-symbol (map fold (now (w .entry))))) (now (out .entry)) (now (out .exit)) r × (r ≤ rowBound) ⌝ }
 {
     let a = put_lead(out, q);
     let k = least(a, out.len());
@@ -151,8 +133,8 @@ fn put_exponent(out: &mut [u8], minus: bool, n: u64) -> usize
 }
 
 pub fn put_unit(out: &mut [u8], q: Prior, op: Op, w: &[u8], minus: bool, n: u64) -> usize
-    requires { ⌜ length (now w) ≤ 65535 ⌝ }
-    ensures { λ r. ⌜ Puts (writes (priorOf q) outside (a-unit (opOf op) (map fold (now (w .entry))) (whole minus n))) (now (out .entry)) (now (out .exit)) r × (r ≤ 200000) ⌝ }
+    requires { ⌜ length (now w) ≤ longest ⌝ }
+    ensures { λ r. ⌜ Puts (writes (priorOf q) outside (a-unit (opOf op) (map fold (now (w .entry))) (whole minus n))) (now (out .entry)) (now (out .exit)) r × (r ≤ rowBound) ⌝ }
 {
     let a = put_op(out, op);
     let k = least(a, out.len());
@@ -163,7 +145,7 @@ pub fn put_unit(out: &mut [u8], q: Prior, op: Op, w: &[u8], minus: bool, n: u64)
 }
 
 pub fn put_sequence(out: &mut [u8], q: Prior) -> usize
-    ensures { λ r. ⌜ Puts (writes (priorOf q) outside sequence) (now (out .entry)) (now (out .exit)) r × (r ≤ 200000) ⌝ }
+    ensures { λ r. ⌜ Puts (writes (priorOf q) outside sequence) (now (out .entry)) (now (out .exit)) r × (r ≤ rowBound) ⌝ }
 {
     let a = put_lead(out, q);
     let k = least(a, out.len());
@@ -172,7 +154,7 @@ pub fn put_sequence(out: &mut [u8], q: Prior) -> usize
 }
 
 pub fn put_sequence_end(out: &mut [u8], q: Prior) -> usize
-    ensures { λ r. ⌜ Puts (writes (priorOf q) outside sequence-end) (now (out .entry)) (now (out .exit)) r × (r ≤ 200000) ⌝ }
+    ensures { λ r. ⌜ Puts (writes (priorOf q) outside sequence-end) (now (out .entry)) (now (out .exit)) r × (r ≤ rowBound) ⌝ }
 {
     let a = put_units_end(out, q);
     let k = least(a, out.len());
@@ -181,7 +163,7 @@ pub fn put_sequence_end(out: &mut [u8], q: Prior) -> usize
 }
 
 pub fn put_set(out: &mut [u8], q: Prior) -> usize
-    ensures { λ r. ⌜ Puts (writes (priorOf q) outside set) (now (out .entry)) (now (out .exit)) r × (r ≤ 200000) ⌝ }
+    ensures { λ r. ⌜ Puts (writes (priorOf q) outside set) (now (out .entry)) (now (out .exit)) r × (r ≤ rowBound) ⌝ }
 {
     let a = put_lead(out, q);
     let k = least(a, out.len());
@@ -190,7 +172,7 @@ pub fn put_set(out: &mut [u8], q: Prior) -> usize
 }
 
 pub fn put_set_end(out: &mut [u8], q: Prior) -> usize
-    ensures { λ r. ⌜ Puts (writes (priorOf q) outside set-end) (now (out .entry)) (now (out .exit)) r × (r ≤ 200000) ⌝ }
+    ensures { λ r. ⌜ Puts (writes (priorOf q) outside set-end) (now (out .entry)) (now (out .exit)) r × (r ≤ rowBound) ⌝ }
 {
     let a = put_units_end(out, q);
     let k = least(a, out.len());

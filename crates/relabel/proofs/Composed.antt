@@ -1,55 +1,51 @@
 -- A reading and a writing, one after the other.
-use Prim.Native.Nat.{ℕ, _-_, _≤_, _<_}
+use Prim.Native.Nat.{ℕ, _-_, _≤_}
 use native.Mathlib.Omega.{arith}
 use mathlib.Core.Path.{_≡_, refl, sym, ap, subst, _∙_}
 use mathlib.Core.List.{List}
 use lib.ListN.{length, take, drop}
-use lib.Seq.{take-all, take-at}
+use lib.Seq.{take-at}
 use Rattle.rules.specs.Data.{Row}
 use Rattle.rules.specs.Modes.{base}
 use Rattle.rules.specs.Table.{table}
 use Rattle.rules.specs.Proper.{proper-rows, Ruled}
-use Rattle.rules.specs.Reading.{Said, accepted, refused, Reads, too-long, read, Answered, stored, no-room, not-read}
+use Rattle.rules.specs.Reading.{longest, Said, accepted, Reads, read, Answered, stored, no-room, not-read}
 use Rattle.rules.specs.Writing.{Writes, long-label, no-table, long-written, short-room, stored as put}
 use Rattle.rules.specs.Asked.{says}
 use Rattle.rules.proofs.Tables.Judge.{same-rows, not-both, verdict-once}
 use Rattle.rules.proofs.Tables.OwnTable.{read-ruled}
-use Rattle.statements.proofs.Codes.{judged-code}
+use Rattle.rules.proofs.Rooms.{refusal-some}
+use Rattle.classes.specs.Places.{part}
 use Rattle.relabel.specs.Relabels.{Relabels}
 use Rattle.relabel.specs.Relabels as relabel
 
 -- ---- the reading
 
--- no refusal has the code 0
-refusal-code : {label : List ℕ} {c i : ℕ} → Reads base label (refused c i) → c ≡ 0 → ⊥
-refusal-code (too-long h) e = omega arith
-refusal-code (read h j) e = omega (arith, judged-code j .0)
-
 -- the table that was read, where the code is 0
-pub record Got (label lent : List ℕ) : Type 0 where
+pub record ReadTable (label lent : List ℕ) : Type 0 where
   pub rows : List Row
   pub past : ℕ
   pub reads : Reads base label (accepted rows past)
-  pub fits : length (table rows) ≤ 65535
+  pub fits : length (table rows) ≤ longest
   pub is : lent ≡ table rows
 
-pub got : {label room last lent : List ℕ} {s : Said} → length room ≡ 65535 → Answered base label room s last → s .code ≡ 0 → lent ≡ take (s .size) last → Got label lent
-got {room = room} k (stored {rows} r h) e q =
+pub read-table : {label room last lent : List ℕ} {s : Said} → length room ≡ longest → Answered base label room s last → s .code ≡ 0 → lent ≡ take (s .size) last → ReadTable label lent
+read-table {room = room} k (stored {rows} r h) e q =
     record { rows = rows; past = _; reads = r; fits = omega arith; is = q ∙ take-at (table rows) (drop (length (table rows)) room) (length (table rows)) refl }
-got k (no-room r h) e q = absurd (omega arith)
-got k (not-read r) e q = absurd (refusal-code r e)
+read-table k (no-room r h) e q = absurd (omega arith)
+read-table k (not-read r) e q = absurd (omega (arith, refusal-some r))
 
-pub refuses : {label room last : List ℕ} (out : List ℕ) {s : Said} → length room ≡ 65535 → Answered base label room s last → (s .code ≡ 0 → ⊥) → Relabels label out s out
+pub refuses : {label room last : List ℕ} (out : List ℕ) {s : Said} → length room ≡ longest → Answered base label room s last → (s .code ≡ 0 → ⊥) → Relabels label out s out
 refuses out k (stored r h) n = absurd (n refl)
 refuses out k (no-room r h) n = relabel.long-table r (omega arith)
 refuses out k (not-read r) n = relabel.not-read r
 
 -- ---- the writing
 
-short : {label : List ℕ} {rows : List Row} {i : ℕ} → Reads base label (accepted rows i) → length label ≤ 65535
+short : {label : List ℕ} {rows : List Row} {i : ℕ} → Reads base label (accepted rows i) → length label ≤ longest
 short (read h j) = h
 
-pub anew : {label lent out last : List ℕ} {s : Said} → Got label lent → Writes label lent out s last → Relabels label out s last
+pub anew : {label lent out last : List ℕ} {s : Said} → ReadTable label lent → Writes label lent out s last → Relabels label out s last
 anew {label} {lent} g w = go w
   where
     ruled : Ruled label lent (proper-rows (g .rows))
@@ -61,8 +57,8 @@ anew {label} {lent} g w = go w
     reads : {rows : List Row} → Ruled label lent (proper-rows rows) → Reads base label (accepted rows (g .past))
     reads v = subst (λ (l : List Row). Reads base label (accepted l (g .past))) (same v) (g .reads)
 
-    fits : {rows : List Row} → Ruled label lent (proper-rows rows) → length (table rows) ≤ 65535
-    fits v = subst (λ (l : List Row). length (table l) ≤ 65535) (same v) (g .fits)
+    fits : {rows : List Row} → Ruled label lent (proper-rows rows) → length (table rows) ≤ longest
+    fits v = subst (λ (l : List Row). length (table l) ≤ longest) (same v) (g .fits)
 
     go : {out last : List ℕ} {s : Said} → Writes label lent out s last → Relabels label out s last
     go (long-label h) = absurd (omega (arith, short (g .reads)))
@@ -76,18 +72,10 @@ anew {label} {lent} g w = go w
 told : {label out last : List ℕ} {s : Said} {c p n : ℕ} → c ≡ s .code → p ≡ s .place → n ≡ s .size → Relabels label out s last → Relabels label out (says c p n) last
 told e f g r = rw (e, f, g) r
 
-pub refused-reading : {label room last : List ℕ} (out : List ℕ) {s : Said} {c p n : ℕ} → length room ≡ 65535 → Answered base label room s last → c ≡ s .code → (c ≡ 0 → ⊥) → p ≡ s .place → n ≡ s .size →
+pub refused-reading : {label room last : List ℕ} (out : List ℕ) {s : Said} {c p n : ℕ} → length room ≡ longest → Answered base label room s last → c ≡ s .code → (c ≡ 0 → ⊥) → p ≡ s .place → n ≡ s .size →
     Relabels label out (says c p n) out
 refused-reading out k a e z f g = told e f g (refuses out k a (λ q. z (e ∙ q)))
 
-pub written-anew : {label room kept lent out last : List ℕ} {s s′ : Said} {c n c′ p′ n′ : ℕ} → length room ≡ 65535 → Answered base label room s kept → c ≡ s .code → c ≡ 0 → n ≡ s .size → lent ≡ take n kept →
+pub written-anew : {label room kept lent out last : List ℕ} {s s′ : Said} {c n c′ p′ n′ : ℕ} → length room ≡ longest → Answered base label room s kept → c ≡ s .code → c ≡ 0 → n ≡ s .size → lent ≡ part kept 0 n →
     Writes label lent out s′ last → c′ ≡ s′ .code → p′ ≡ s′ .place → n′ ≡ s′ .size → Relabels label out (says c′ p′ n′) last
-written-anew {kept = kept} k a e z g q w e′ f′ g′ = told e′ f′ g′ (anew (got k a (sym e ∙ z) (q ∙ ap (λ (i : ℕ). take i kept) g)) w)
-
--- ---- the first bytes
-
-pub some-front : (s : List ℕ) (n : ℕ) → take (n - 0) (drop 0 s) ≡ take n s
-some-front s n = let e : n - 0 ≡ n = omega arith in rw e
-
-pub all-front : (s : List ℕ) (n : ℕ) → length s < n → s ≡ take n s
-all-front s n h = sym (take-all n s (omega arith))
+written-anew {kept = kept} {s = s} {n = n} k a e z g q w e′ f′ g′ = told e′ f′ g′ (anew (read-table k a (sym e ∙ z) (q ∙ ap (λ (i : ℕ). take i kept) (let h : n - 0 ≡ s .size = omega arith in h))) w)

@@ -10,7 +10,7 @@ use Rattle.rules.specs.Modes.{base}
 use Rattle.rules.specs.Table.{table}
 use Rattle.rules.specs.Meaning.{meaning}
 use Rattle.rules.specs.Written.{canonical}
-use Rattle.rules.specs.Reading.{Said, Outcome, accepted, refused, Reads}
+use Rattle.rules.specs.Reading.{longest, Said, Outcome, accepted, refused, Reads}
 use Rattle.rules.specs.Asked.{says}
 use Rattle.rules.proofs.Reading.Reader.{reading-unique}
 use Rattle.relabel.specs.declared.anew.Answer.{Answer}
@@ -24,12 +24,12 @@ data Ending : Type 0 where
 abbrev decided : List ℕ → List ℕ → Outcome → Ending
 decided label room (refused c i) = ending (says c i 0) room
 decided label room (accepted rows i) =
-    cond (leb (length (table rows)) 65535)
-    (cond (leb (length (canonical (meaning label rows))) 65535)
+    cond (leb (length (table rows)) longest)
+    (cond (leb (length (canonical (meaning label rows))) longest)
     (cond (leb (length (canonical (meaning label rows))) (length room))
     (ending (says 0 (length (canonical (meaning label rows))) (length (canonical (meaning label rows)))) (canonical (meaning label rows) ++ drop (length (canonical (meaning label rows))) room))
     (ending (says 11 (length (canonical (meaning label rows))) (length (canonical (meaning label rows)))) room))
-    (ending (says 13 65535 0) room))
+    (ending (says 13 longest 0) room))
     (ending (says 11 i (length (table rows))) room)
 
 record Decided (label room : List ℕ) (a : Ending) : Type 0 where
@@ -38,10 +38,10 @@ record Decided (label room : List ℕ) (a : Ending) : Type 0 where
   is : a ≡ decided label room outcome
 
 by-reading : {label room last : List ℕ} {s : Said} → Relabels label room s last → Decided label room (ending s last)
-by-reading {label} {room} (written {rows} {i} r t w h) = record { outcome = accepted rows i; reads = r; is = rw (le-leb (length (table rows)) 65535 t, le-leb (length (canonical (meaning label rows))) 65535 w, le-leb (length (canonical (meaning label rows))) (length room) h) }
-by-reading {label} {room} (short-room {rows} {i} r t w h) = record { outcome = accepted rows i; reads = r; is = rw (le-leb (length (table rows)) 65535 t, le-leb (length (canonical (meaning label rows))) 65535 w, lt-leb (length (canonical (meaning label rows))) (length room) h) }
-by-reading {label} (long-written {rows} {i} r t w) = record { outcome = accepted rows i; reads = r; is = rw (le-leb (length (table rows)) 65535 t, lt-leb (length (canonical (meaning label rows))) 65535 w) }
-by-reading (long-table {rows} {i} r t) = record { outcome = accepted rows i; reads = r; is = rw (lt-leb (length (table rows)) 65535 t) }
+by-reading {label} {room} (written {rows} {i} r t w h) = record { outcome = accepted rows i; reads = r; is = rw (le-leb (length (table rows)) longest t, le-leb (length (canonical (meaning label rows))) longest w, le-leb (length (canonical (meaning label rows))) (length room) h) }
+by-reading {label} {room} (short-room {rows} {i} r t w h) = record { outcome = accepted rows i; reads = r; is = rw (le-leb (length (table rows)) longest t, le-leb (length (canonical (meaning label rows))) longest w, lt-leb (length (canonical (meaning label rows))) (length room) h) }
+by-reading {label} (long-written {rows} {i} r t w) = record { outcome = accepted rows i; reads = r; is = rw (le-leb (length (table rows)) longest t, lt-leb (length (canonical (meaning label rows))) longest w) }
+by-reading (long-table {rows} {i} r t) = record { outcome = accepted rows i; reads = r; is = rw (lt-leb (length (table rows)) longest t) }
 by-reading (not-read {c} {i} r) = record { outcome = refused c i; reads = r; is = refl }
 
 abbrev said : Ending → Said

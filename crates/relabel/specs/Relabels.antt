@@ -8,8 +8,8 @@ use Rattle.rules.specs.Table.{table}
 use Rattle.rules.specs.Reading.{longest, Said, says, filled, accepted, refused, Reads}
 use Rattle.rules.specs.Writing.{labelOf}
 
--- Program `relabel` reads standard input and writes the canonical label, or the line `REFUSED code place`, the numbers those of the refused reading or
--- writing. Room 65,535 bytes for table and label each; the room for the label is the one that is lent.
+-- Program `relabel` reads standard input and writes the canonical label, or the line `REFUSED code place`, the numbers those of the
+-- refused reading or writing. Room 65,535 bytes for table and label each; the room for the label is the one that is lent.
 pub data Relabels (label room : List ℕ) : Said → List ℕ → Type 0 where
   -- the canonical label of its meaning, at the room's start
   written : {rows : List Row} {i : ℕ} → Reads base label (accepted rows i) → length (table rows) ≤ longest →
@@ -22,6 +22,7 @@ pub data Relabels (label room : List ℕ) : Said → List ℕ → Type 0 where
   long-written : {rows : List Row} {i : ℕ} → Reads base label (accepted rows i) → length (table rows) ≤ longest →
       longest < length (labelOf label rows) → Relabels label room (says 13 longest 0) room
   -- 11: the table is longer than its room
-  long-table : {rows : List Row} {i : ℕ} → Reads base label (accepted rows i) → longest < length (table rows) → Relabels label room (says 11 i (length (table rows))) room
+  long-table : {rows : List Row} {i : ℕ} → Reads base label (accepted rows i) → longest < length (table rows) →
+      Relabels label room (says 11 i (length (table rows))) room
   -- 1 to 10: refused when read
   not-read : {c i : ℕ} → Reads base label (refused c i) → Relabels label room (says c i 0) room

@@ -1,8 +1,8 @@
 // A label written anew in its canonical form, or why not. What the program prints is this answer.
+use classes::LONGEST_LABEL;
+use classes::part;
 use statements::read;
 use writer::write;
-ghost use mathlib.Core.Path.{_≡_};
-ghost use lib.ListN.{take};
 ghost use Rattle.rules.specs.Asked.{says};
 ghost use Rattle.relabel.specs.Relabels.{Relabels};
 
@@ -13,21 +13,11 @@ pub struct Answer {
     pub length: usize,
 }
 
-// The first bytes, as far as there are any.
-pub fn front(s: &[u8], n: usize) -> &[u8]
-    ensures { λ r. ⌜ now r ≡ take n (now (s .entry)) ⌝ }
-{
-    if n <= s.len() {
-        return &s[0..n];
-    }
-    s
-}
-
 // The room for the table is as long as that for a label.
 pub fn relabelled(label: &[u8], out: &mut [u8]) -> Answer
     ensures { λ r. ⌜ Relabels (now (label .entry)) (now (out .entry)) (says (r .code) (r .place) (r .length)) (now (out .exit)) ⌝ }
 {
-    let mut table = [0u8; 65535];
+    let mut table = [0u8; LONGEST_LABEL];
     let r = read(label, &mut table);
     let code = statements::code_of(r);
     let n = statements::length_of(r);
@@ -38,7 +28,7 @@ pub fn relabelled(label: &[u8], out: &mut [u8]) -> Answer
             length: n,
         };
     }
-    let w = write(label, front(&table, n), out);
+    let w = write(label, part(&table, 0, n), out);
     Answer {
         code: writer::code_of(w),
         place: writer::place_of(w),

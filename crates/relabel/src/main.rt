@@ -1,8 +1,9 @@
 // Reads a label from standard input and writes its canonical form, or the line `REFUSED code place`.
 mod anew; // anew.rt: a label written anew
 
-use anew::front;
 use anew::relabelled;
+use classes::LONGEST_LABEL;
+use classes::part;
 
 fn print_refusal(code: u8, place: usize) {
     io::write_all(1, b"REFUSED ");
@@ -14,13 +15,13 @@ fn print_refusal(code: u8, place: usize) {
 
 // The room for the written label is as long as any that may be written.
 fn print_relabelled(label: &[u8]) {
-    let mut out = [0u8; 65535];
+    let mut out = [0u8; LONGEST_LABEL];
     let answer = relabelled(label, &mut out);
     if answer.code != 0 {
         print_refusal(answer.code, answer.place);
         return;
     }
-    io::write_all(1, front(&out, answer.length));
+    io::write_all(1, part(&out, 0, answer.length));
 }
 
 fn main() {

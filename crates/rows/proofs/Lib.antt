@@ -1,4 +1,7 @@
 -- What the proofs of this crate share.
 pub mod Writing
-pub mod Puts
+pub mod Encoding
+pub mod Octets
+pub mod Decoding
 pub mod Once
+pub mod EachWay

@@ -1,96 +1,162 @@
-// A row of each shape at the start of the room that is lent; each part goes into the room that the part before it leaves.
-use crate::numbers::put_byte;
-use crate::numbers::put_eight;
-use crate::numbers::put_four;
-use crate::numbers::put_two;
+// A row out of its body: the bytes of a row after its kind. A body too short is read as though zeros followed.
+use crate::ATTRIBUTE;
+use crate::CLOSE_GROUP;
+use crate::CLOSE_OBJECT;
+use crate::Got;
+use crate::INTEGER;
+use crate::Kind;
+use crate::LAST;
+use crate::LONGEST_ROW;
+use crate::OPEN_GROUP;
+use crate::OPEN_OBJECT;
+use crate::Op;
+use crate::POINTER;
+use crate::REAL;
+use crate::Row;
+use crate::SEQUENCE;
+use crate::SEQUENCE_END;
+use crate::SET;
+use crate::SET_END;
+use crate::SYMBOL;
+use crate::TEXT;
+use crate::TIME;
+use crate::UNIT;
+use crate::fields::eight_at;
+use crate::fields::four_at;
+use crate::fields::is_minus;
+use crate::fields::octet;
+use crate::fields::one_at;
+use crate::fields::size_of;
+use crate::fields::two_at;
 use words::Moment;
-ghost use mathlib.Core.List.{[], _∷_, _++_};
+use words::Real;
+ghost use mathlib.Core.Path.{_≡_};
 ghost use Prim.Native.Nat.{_≤_};
-ghost use lib.ListN.{length};
-ghost use Rattle.rules.specs.Table.{bytes};
-ghost use Rattle.rows.specs.Rows.{Wrote};
+ghost use Rattle.rows.specs.Decoding.{NumberAt, bodyOf, Body, UnitBody, BodyGives};
 
-pub fn put_span(out: &mut [u8], kind: u8, a: usize, b: usize) -> usize
-    requires { ⌜ 5 ≤ length (now out) ⌝ }
-    ensures { λ r. ⌜ Wrote (kind ∷ (bytes 2 a ++ bytes 2 b)) (now (out .entry)) (now (out .exit)) r ⌝ }
+// Where the numbers below zero begin in two's complement, by how many bytes a number has.
+const HALF_OF_1: u64 = 128;
+
+const HALF_OF_2: u64 = 32768;
+
+const HALF_OF_8: u64 = 0x8000_0000_0000_0000;
+
+// An offset into the label.
+fn place(b: &[u8], i: usize) -> usize
+    requires { ⌜ i ≤ 100 ⌝ }
+    ensures { λ r. ⌜ NumberAt 2 0 (now (b .entry)) i r ⌝ }
 {
-    let n = put_byte(out, kind);
-    let m = n + put_two(&mut out[n..], a as u64);
-    let j = put_two(&mut out[m..], b as u64);
-    m + j
+    two_at(b, i) as usize
 }
 
-pub fn put_integer(out: &mut [u8], v: u64) -> usize
-    requires { ⌜ 9 ≤ length (now out) ⌝ }
-    ensures { λ r. ⌜ Wrote (10 ∷ bytes 8 v) (now (out .entry)) (now (out .exit)) r ⌝ }
+fn integer(b: &[u8]) -> Row
+    ensures { λ r. ⌜ Body 10 (now (b .entry)) r ⌝ }
 {
-    let n = put_byte(out, 10);
-    let m = put_eight(&mut out[n..], v);
-    n + m
+    let v = eight_at(b, 0);
+    Row::Integer(is_minus(v, HALF_OF_8), size_of(v, HALF_OF_8))
 }
 
-pub fn put_real(out: &mut [u8], number: u64, power: u64) -> usize
-    requires { ⌜ 11 ≤ length (now out) ⌝ }
-    ensures { λ r. ⌜ Wrote (11 ∷ (bytes 8 number ++ bytes 2 power)) (now (out .entry)) (now (out .exit)) r ⌝ }
+fn float(b: &[u8]) -> Row
+    ensures { λ r. ⌜ Body 11 (now (b .entry)) r ⌝ }
 {
-    let n = put_byte(out, 11);
-    let m = n + put_eight(&mut out[n..], number);
-    let k = put_two(&mut out[m..], power);
-    m + k
+    let v = eight_at(b, 0);
+    let p = two_at(b, 8);
+    Row::Float(Real {
+        minus: is_minus(v, HALF_OF_8),
+        number: size_of(v, HALF_OF_8),
+        below: is_minus(p, HALF_OF_2),
+        power: size_of(p, HALF_OF_2) as u16,
+    })
 }
 
-// Kind, parts, year, month, day.
-fn put_date(out: &mut [u8], x: Moment) -> usize
-    requires { ⌜ 6 ≤ length (now out) ⌝ }
-    ensures { λ r. ⌜ Wrote (12 ∷ x .parts ∷ (bytes 2 (x .year) ++ (x .month ∷ x .day ∷ []))) (now (out .entry)) (now (out .exit)) r ⌝ }
+fn time(b: &[u8]) -> Row
+    ensures { λ r. ⌜ Body 12 (now (b .entry)) r ⌝ }
 {
-    let n = put_byte(out, 12);
-    let m = n + put_byte(&mut out[n..], x.parts);
-    let k = m + put_two(&mut out[m..], x.year as u64);
-    let j = k + put_byte(&mut out[k..], x.month);
-    let i = put_byte(&mut out[j..], x.day);
-    j + i
+    let y = two_at(b, 1);
+    let n = four_at(b, 8);
+    let o = two_at(b, 12);
+    Row::Time(Moment {
+        parts: octet(b, 0),
+        year: y as u16,
+        month: octet(b, 3),
+        day: octet(b, 4),
+        hour: octet(b, 5),
+        minute: octet(b, 6),
+        second: octet(b, 7),
+        nanoseconds: n as u32,
+        west: is_minus(o, HALF_OF_2),
+        offset: size_of(o, HALF_OF_2) as u16,
+    })
 }
 
-// Hour, minute, second, nanoseconds, offset.
-fn put_clock(out: &mut [u8], x: Moment, offset: u64) -> usize
-    requires { ⌜ 9 ≤ length (now out) ⌝ }
-    ensures { λ r. ⌜ Wrote (x .hour ∷ x .minute ∷ x .second ∷ (bytes 4 (x .nanoseconds) ++ bytes 2 offset)) (now (out .entry)) (now (out .exit)) r ⌝ }
+// A unit after its operator's byte.
+fn unit_of(op: Op, b: &[u8]) -> Row
+    ensures { λ r. ⌜ UnitBody op (now (b .entry)) r ⌝ }
 {
-    let n = put_byte(out, x.hour);
-    let m = n + put_byte(&mut out[n..], x.minute);
-    let k = m + put_byte(&mut out[m..], x.second);
-    let j = k + put_four(&mut out[k..], x.nanoseconds as u64);
-    let i = put_two(&mut out[j..], offset);
-    j + i
+    let v = one_at(b, 5);
+    Row::Unit(
+        op,
+        place(b, 1),
+        place(b, 3),
+        is_minus(v, HALF_OF_1),
+        size_of(v, HALF_OF_1),
+    )
 }
 
-pub fn put_moment(out: &mut [u8], x: Moment, offset: u64) -> usize
-    requires { ⌜ 15 ≤ length (now out) ⌝ }
-    ensures { λ r. ⌜ Wrote (12 ∷ x .parts ∷ (bytes 2 (x .year) ++ (x .month ∷ x .day ∷ x .hour ∷ x .minute ∷ x .second ∷ (bytes 4 (x .nanoseconds) ++ bytes 2 offset)))) (now (out .entry)) (now (out .exit)) r ⌝ }
+fn unit(b: &[u8], next: usize) -> Got
+    ensures { λ r. ⌜ BodyGives 15 (now (b .entry)) next r ⌝ }
 {
-    let n = put_date(out, x);
-    let m = put_clock(&mut out[n..], x, offset);
-    n + m
+    let op = octet(b, 0);
+    match op {
+        0 => Got::Found(unit_of(Op::First, b), next),
+        1 => Got::Found(unit_of(Op::Times, b), next),
+        2 => Got::Found(unit_of(Op::Divided, b), next),
+        _ => Got::Nothing,
+    }
 }
 
-pub fn put_unit(out: &mut [u8], op: u8, a: usize, b: usize, exponent: u8) -> usize
-    requires { ⌜ 7 ≤ length (now out) ⌝ }
-    ensures { λ r. ⌜ Wrote (15 ∷ op ∷ (bytes 2 a ++ (bytes 2 b ++ (exponent ∷ [])))) (now (out .entry)) (now (out .exit)) r ⌝ }
+// How long the body of a row of this kind is, and 0 where there is no such kind.
+pub fn body_len(k: u8) -> usize
+    ensures { λ r. ⌜ r ≡ bodyOf k ⌝ }
 {
-    let n = put_byte(out, 15);
-    let m = n + put_byte(&mut out[n..], op);
-    let k = m + put_two(&mut out[m..], a as u64);
-    let j = k + put_two(&mut out[k..], b as u64);
-    let i = put_byte(&mut out[j..], exponent);
-    j + i
+    match k {
+        ATTRIBUTE => 4,
+        POINTER => 4,
+        OPEN_OBJECT => 4,
+        OPEN_GROUP => 4,
+        INTEGER => 8,
+        REAL => 10,
+        TIME => LONGEST_ROW - 1,
+        TEXT => 4,
+        SYMBOL => 4,
+        UNIT => 6,
+        LAST => 2,
+        _ => 0,
+    }
 }
 
-pub fn put_last(out: &mut [u8], a: usize) -> usize
-    requires { ⌜ 3 ≤ length (now out) ⌝ }
-    ensures { λ r. ⌜ Wrote (99 ∷ bytes 2 a) (now (out .entry)) (now (out .exit)) r ⌝ }
+// The row of this kind with this body, and the place after it, which is given; nothing where no row is such.
+pub fn row_of(k: u8, b: &[u8], next: usize) -> Got
+    ensures { λ r. ⌜ BodyGives k (now (b .entry)) next r ⌝ }
 {
-    let n = put_byte(out, 99);
-    let m = put_two(&mut out[n..], a as u64);
-    n + m
+    match k {
+        ATTRIBUTE => Got::Found(Row::Attribute(place(b, 0), place(b, 2)), next),
+        POINTER => Got::Found(Row::Pointer(place(b, 0), place(b, 2)), next),
+        OPEN_OBJECT => Got::Found(Row::Open(Kind::Object, place(b, 0), place(b, 2)), next),
+        CLOSE_OBJECT => Got::Found(Row::Close(Kind::Object), next),
+        OPEN_GROUP => Got::Found(Row::Open(Kind::Group, place(b, 0), place(b, 2)), next),
+        CLOSE_GROUP => Got::Found(Row::Close(Kind::Group), next),
+        INTEGER => Got::Found(integer(b), next),
+        REAL => Got::Found(float(b), next),
+        TIME => Got::Found(time(b), next),
+        TEXT => Got::Found(Row::Text(place(b, 0), place(b, 2)), next),
+        SYMBOL => Got::Found(Row::Symbol(place(b, 0), place(b, 2)), next),
+        UNIT => unit(b, next),
+        SEQUENCE => Got::Found(Row::Sequence, next),
+        SEQUENCE_END => Got::Found(Row::SequenceEnd, next),
+        SET => Got::Found(Row::Set, next),
+        SET_END => Got::Found(Row::SetEnd, next),
+        LAST => Got::Found(Row::Last(place(b, 0)), next),
+        _ => Got::Nothing,
+    }
 }

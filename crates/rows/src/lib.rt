@@ -1,30 +1,38 @@
-// The rows of the table: what a row holds, how long it is, and its bytes.
-mod numbers; // numbers.rt: a number as bytes
-mod bodies; // bodies.rt: a row of each shape
+// The rows of the table: what a row holds, its bytes, and the row at a place of any table.
+mod numbers; // numbers.rt: numbers into bytes
+mod shapes; // shapes.rt: a row of each shape into bytes
+mod fields; // fields.rt: numbers out of bytes
+mod bodies; // bodies.rt: a row out of its body
 
-use bodies::put_integer;
-use bodies::put_last;
-use bodies::put_moment;
-use bodies::put_real;
-use bodies::put_span;
-use bodies::put_unit;
-use numbers::put_byte;
+use bodies::body_len;
+use bodies::row_of;
+use numbers::encode_byte;
 use numbers::twos8;
 use numbers::twos16;
 use numbers::twos64;
+use shapes::encode_integer;
+use shapes::encode_last;
+use shapes::encode_moment;
+use shapes::encode_real;
+use shapes::encode_span;
+use shapes::encode_unit;
 use words::Moment;
 use words::Real;
 ghost use mathlib.Core.Path.{_≡_};
 ghost use Prim.Native.Nat.{_≤_};
 ghost use lib.ListN.{length};
-ghost use Rattle.rules.specs.Table.{opNumber, openKind, closeKind, table};
-ghost use Rattle.rows.specs.Rows.{kindOf, opOf, rowsOf, Wrote};
+ghost use Rattle.rules.specs.Table.{opNumber, openKind, closeKind, encode};
+ghost use Rattle.rows.specs.Rows.{kindOf, opOf, rowOf, Wrote};
+ghost use Rattle.rows.specs.Decoding.{Decodes};
 
 // The two kinds of block.
 pub enum Kind {
     Object,
     Group,
 }
+
+// So many blocks may be open, one in the other.
+pub const DEEPEST: usize = 80;
 
 // How a unit stands in its expression.
 pub enum Op {
@@ -33,9 +41,16 @@ pub enum Op {
     Divided,
 }
 
-// What an element gives: a row, nothing, or the code and place of a refusal. Spans are start and end.
+// What a scalar is a member of.
+pub enum Nest {
+    Alone,
+    Sequence,
+    Row,
+    Set,
+}
+
+// A row. Spans are start and end.
 pub enum Row {
-    Nothing,
     Attribute(usize, usize),
     Pointer(usize, usize),
     Open(Kind, usize, usize),
@@ -51,21 +66,64 @@ pub enum Row {
     Set,
     SetEnd,
     Last(usize),
-    Stop(u8, usize),
 }
 
-pub fn row_len(row: Row) -> usize
-    ensures { λ r. ⌜ r ≡ length (table (rowsOf row)) ⌝ }
+// The row at a place of a table and the place after it.
+pub enum Got {
+    Nothing,
+    Found(Row, usize),
+}
+
+// The bytes of the longest rows, those of dates and times.
+pub const LONGEST_ROW: usize = 15;
+
+// The kinds of rows, as the table has them.
+pub const ATTRIBUTE: u8 = 1;
+
+pub const POINTER: u8 = 2;
+
+pub const OPEN_OBJECT: u8 = 3;
+
+pub const CLOSE_OBJECT: u8 = 4;
+
+pub const OPEN_GROUP: u8 = 5;
+
+pub const CLOSE_GROUP: u8 = 6;
+
+pub const INTEGER: u8 = 10;
+
+pub const REAL: u8 = 11;
+
+pub const TIME: u8 = 12;
+
+pub const TEXT: u8 = 13;
+
+pub const SYMBOL: u8 = 14;
+
+pub const UNIT: u8 = 15;
+
+pub const SEQUENCE: u8 = 20;
+
+pub const SEQUENCE_END: u8 = 21;
+
+pub const SET: u8 = 22;
+
+pub const SET_END: u8 = 23;
+
+pub const LAST: u8 = 99;
+
+// How many bytes the row has.
+pub fn encoded_len(row: Row) -> usize
+    ensures { λ r. ⌜ r ≡ length (encode (rowOf row)) ⌝ }
 {
     match row {
-        Row::Nothing => 0,
         Row::Attribute(_, _) => 5,
         Row::Pointer(_, _) => 5,
         Row::Open(_, _, _) => 5,
         Row::Close(_) => 1,
         Row::Integer(_, _) => 9,
         Row::Float(_) => 11,
-        Row::Time(_) => 15,
+        Row::Time(_) => LONGEST_ROW,
         Row::Text(_, _) => 5,
         Row::Symbol(_, _) => 5,
         Row::Unit(_, _, _, _, _) => 7,
@@ -74,7 +132,6 @@ pub fn row_len(row: Row) -> usize
         Row::Set => 1,
         Row::SetEnd => 1,
         Row::Last(_) => 3,
-        Row::Stop(_, _) => 0,
     }
 }
 
@@ -88,46 +145,63 @@ fn op_number(op: Op) -> u8
     }
 }
 
-fn open_kind(k: Kind) -> u8
+// The kind of the row that opens a block.
+pub fn open_kind(k: Kind) -> u8
     ensures { λ r. ⌜ r ≡ openKind (kindOf k) ⌝ }
 {
     match k {
-        Kind::Object => 3,
-        Kind::Group => 5,
+        Kind::Object => OPEN_OBJECT,
+        Kind::Group => OPEN_GROUP,
     }
 }
 
-fn close_kind(k: Kind) -> u8
+// The kind of the row that closes it.
+pub fn close_kind(k: Kind) -> u8
     ensures { λ r. ⌜ r ≡ closeKind (kindOf k) ⌝ }
 {
     match k {
-        Kind::Object => 4,
-        Kind::Group => 6,
+        Kind::Object => CLOSE_OBJECT,
+        Kind::Group => CLOSE_GROUP,
     }
 }
 
 // The row at the start of the room that is lent; its length.
-pub fn put_row(out: &mut [u8], row: Row) -> usize
-    requires { ⌜ length (table (rowsOf row)) ≤ length (now out) ⌝ }
-    ensures { λ r. ⌜ Wrote (table (rowsOf row)) (now (out .entry)) (now (out .exit)) r ⌝ }
+pub fn encode(out: &mut [u8], row: Row) -> usize
+    requires { ⌜ length (encode (rowOf row)) ≤ length (now out) ⌝ }
+    ensures { λ r. ⌜ Wrote (encode (rowOf row)) (now (out .entry)) (now (out .exit)) r ⌝ }
 {
     match row {
-        Row::Nothing => 0,
-        Row::Attribute(a, b) => put_span(out, 1, a, b),
-        Row::Pointer(a, b) => put_span(out, 2, a, b),
-        Row::Open(k, a, b) => put_span(out, open_kind(k), a, b),
-        Row::Close(k) => put_byte(out, close_kind(k)),
-        Row::Integer(m, v) => put_integer(out, twos64(m, v)),
-        Row::Float(x) => put_real(out, twos64(x.minus, x.number), twos16(x.below, x.power)),
-        Row::Time(x) => put_moment(out, x, twos16(x.west, x.offset)),
-        Row::Text(a, b) => put_span(out, 13, a, b),
-        Row::Symbol(a, b) => put_span(out, 14, a, b),
-        Row::Unit(op, a, b, m, v) => put_unit(out, op_number(op), a, b, twos8(m, v)),
-        Row::Sequence => put_byte(out, 20),
-        Row::SequenceEnd => put_byte(out, 21),
-        Row::Set => put_byte(out, 22),
-        Row::SetEnd => put_byte(out, 23),
-        Row::Last(a) => put_last(out, a),
-        Row::Stop(_, _) => 0,
+        Row::Attribute(a, b) => encode_span(out, ATTRIBUTE, a, b),
+        Row::Pointer(a, b) => encode_span(out, POINTER, a, b),
+        Row::Open(k, a, b) => encode_span(out, open_kind(k), a, b),
+        Row::Close(k) => encode_byte(out, close_kind(k)),
+        Row::Integer(m, v) => encode_integer(out, twos64(m, v)),
+        Row::Float(x) => encode_real(out, twos64(x.minus, x.number), twos16(x.below, x.power)),
+        Row::Time(x) => encode_moment(out, x, twos16(x.west, x.offset)),
+        Row::Text(a, b) => encode_span(out, TEXT, a, b),
+        Row::Symbol(a, b) => encode_span(out, SYMBOL, a, b),
+        Row::Unit(op, a, b, m, v) => encode_unit(out, op_number(op), a, b, twos8(m, v)),
+        Row::Sequence => encode_byte(out, SEQUENCE),
+        Row::SequenceEnd => encode_byte(out, SEQUENCE_END),
+        Row::Set => encode_byte(out, SET),
+        Row::SetEnd => encode_byte(out, SET_END),
+        Row::Last(a) => encode_last(out, a),
     }
+}
+
+// Nothing past the table's end, of a row that is cut short, and of bytes that are no row.
+pub fn row_at(table: &[u8], at: usize) -> Got
+    ensures { λ r. ⌜ Decodes (now (table .entry)) at r ⌝ }
+{
+    let n = table.len();
+    if n <= at {
+        return Got::Nothing;
+    }
+    let k = table[at];
+    let e = body_len(k);
+    if n - at <= e {
+        return Got::Nothing;
+    }
+    let next = at + 1 + e;
+    row_of(k, &table[at + 1..next], next)
 }

@@ -8,7 +8,7 @@ ghost use Rattle.rules.specs.Table.{bytes, complement};
 ghost use Rattle.words.specs.Says.{whole};
 ghost use Rattle.rows.specs.Rows.{Wrote};
 
-pub fn put_byte(out: &mut [u8], v: u8) -> usize
+pub fn encode_byte(out: &mut [u8], v: u8) -> usize
     requires { ⌜ 1 ≤ length (now out) ⌝ }
     ensures { λ r. ⌜ Wrote (v ∷ []) (now (out .entry)) (now (out .exit)) r ⌝ }
 {
@@ -16,7 +16,7 @@ pub fn put_byte(out: &mut [u8], v: u8) -> usize
     1
 }
 
-pub fn put_two(out: &mut [u8], v: u64) -> usize
+pub fn encode_two(out: &mut [u8], v: u64) -> usize
     requires { ⌜ 2 ≤ length (now out) ⌝ }
     ensures { λ r. ⌜ Wrote (bytes 2 v) (now (out .entry)) (now (out .exit)) r ⌝ }
 {
@@ -25,21 +25,21 @@ pub fn put_two(out: &mut [u8], v: u64) -> usize
     2
 }
 
-pub fn put_four(out: &mut [u8], v: u64) -> usize
+pub fn encode_four(out: &mut [u8], v: u64) -> usize
     requires { ⌜ 4 ≤ length (now out) ⌝ }
     ensures { λ r. ⌜ Wrote (bytes 4 v) (now (out .entry)) (now (out .exit)) r ⌝ }
 {
-    let n = put_two(out, v / 0x1_0000);
-    let m = put_two(&mut out[n..], v);
+    let n = encode_two(out, v / 0x1_0000);
+    let m = encode_two(&mut out[n..], v);
     n + m
 }
 
-pub fn put_eight(out: &mut [u8], v: u64) -> usize
+pub fn encode_eight(out: &mut [u8], v: u64) -> usize
     requires { ⌜ 8 ≤ length (now out) ⌝ }
     ensures { λ r. ⌜ Wrote (bytes 8 v) (now (out .entry)) (now (out .exit)) r ⌝ }
 {
-    let n = put_four(out, v / 0x1_0000_0000);
-    let m = put_four(&mut out[n..], v);
+    let n = encode_four(out, v / 0x1_0000_0000);
+    let m = encode_four(&mut out[n..], v);
     n + m
 }
 

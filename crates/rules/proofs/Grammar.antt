@@ -1,6 +1,5 @@
--- The grammar of statements: a machine that steps over elements, equal to the grammar both ways; viable beginnings, codes, uniqueness; wider modes;
+-- The grammar of statements: the machine that steps over elements is equal to the grammar both ways; viable beginnings, codes, uniqueness; wider modes;
 -- that a step does not look at places; and that elements are a label in one way.
-pub mod Machine
 pub mod Each
 pub mod Rest
 pub mod Sound

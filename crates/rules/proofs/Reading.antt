@@ -8,7 +8,7 @@ pub mod OneWay
 pub mod EndWord
 pub mod Alike
 pub mod Modes
-pub mod Rows
+pub mod FromElements
 pub mod Stretches
 pub mod Behind
 pub mod Known

@@ -22,7 +22,8 @@ use Rattle.rules.specs.SameElements.{Ample}
 use Rattle.rules.specs.Asked as asked
 use Rattle.rules.specs.Asked.{Texted}
 use Rattle.rules.proofs.Reading.Outcomes.{accepted-same, accepted-refused, refusal-given}
-use Rattle.rules.proofs.Reading.Reader.{reader, reads-sound, reading-unique, answered-unique}
+use Rattle.rules.proofs.Machine.Labels.{reader}
+use Rattle.rules.proofs.Reading.Reader.{reads-sound, reading-unique, answered-unique}
 use Rattle.rules.proofs.Written.Outcome.{writes-once}
 
 -- ---- a reading

@@ -1,20 +1,19 @@
--- Tables: a machine over rows that accepts exactly the rows of labels; rows out of bytes, in one way only; every table is proper or improper, at one place;
+-- Tables: the machine over rows accepts exactly the rows of labels; rows out of bytes, in one way only; every table is proper or improper, at one place;
 -- the table that a reading gives is proper over what was read, and at most five times as long.
 pub mod Tests
 pub mod Numbers
 pub mod Contents
-pub mod Values
-pub mod CutValues
-pub mod RowMachine
+pub mod ElementLimits
+pub mod RowRuns
 pub mod RowOrder
-pub mod RowValues
+pub mod RowLimits
 pub mod Endings
 pub mod Proper
-pub mod Decode
-pub mod Decoded
+pub mod DecodeComplete
+pub mod DecodeSound
 pub mod Once
 pub mod Walk
-pub mod Checks
+pub mod Decided
 pub mod Judge
 pub mod OwnTable
 pub mod Widths

@@ -1,6 +1,6 @@
 -- The written label: its pieces are the elements of a label, its words read back as what they print, its bytes cut into those elements, and its table has
--- the meaning that was written. Reassembly by the rules is a function, which changes nothing the second time. What two calls promise together, and the
--- examples of the calls.
+-- the meaning that was written. Reassembly by the rules is a function, which changes nothing the second time. What two calls promise together, that two
+-- labels mean the same exactly where their written bytes are equal, and the examples of the calls.
 pub mod Folds
 pub mod Texts
 pub mod Reassembly
@@ -15,7 +15,7 @@ pub mod PrintedMoments
 pub mod Names
 pub mod WordBytes
 pub mod Spelling
-pub mod Lines
+pub mod RowByRow
 pub mod RoundTrip
 pub mod Outcome
 pub mod Calls

@@ -12,7 +12,7 @@ use Rattle.rules.specs.Modes.{Mode}
 use Rattle.rules.specs.Elements.{Breaks, open-at-end, open-at, foreign, Fault, no-element, no-form, past-limit, broken-text, broken-symbol, broken-comment, empty-symbol, long-symbol}
 use Rattle.rules.specs.Faults.{PastLimit, exponent-past, name-differs, too-deep, begun-too-deep, not-set-off, Code}
 use Rattle.rules.specs.Faults as faults
-use Rattle.rules.specs.Reading.{refused, Judged, misspelled, misplaced, ends-early}
+use Rattle.rules.specs.Reading.{refused, Judged, misspelled, misplaced, ends-early, says}
 use Rattle.statements.specs.Answer.{said}
 use Rattle.statements.specs.Passes.{Refusal}
 use Rattle.statements.specs.declared.Reading.{Reading}
@@ -52,7 +52,7 @@ judged-code (ends-early x e g) = (omega arith, omega arith)
 
 -- ---- the answer of a code
 
-pub refusal-is : {c p n : ℕ} {r : Reading} → c ≡ n → said r ≡ record { code = n; place = p; size = 0 } → Refusal c p r
+pub refusal-is : {c p n : ℕ} {r : Reading} → c ≡ n → said r ≡ says n p 0 → Refusal c p r
 refusal-is h e = record { is = λ x y. rw h e }
 
 above : (c : ℕ) → 2 ≤ c → (c ≡ 2 → ⊥) → (c ≡ 3 → ⊥) → (c ≡ 4 → ⊥) → (c ≡ 5 → ⊥) → 6 ≤ c

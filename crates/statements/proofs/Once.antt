@@ -10,15 +10,15 @@ use lib.ListN.{length, drop}
 use Rattle.rules.specs.Data.{Row}
 use Rattle.rules.specs.Modes.{base}
 use Rattle.rules.specs.Table.{table}
-use Rattle.rules.specs.Reading.{Said, read, Answered}
+use Rattle.rules.specs.Reading.{longest, Said, says, read, Answered}
+use Rattle.rules.proofs.Reading.Outcomes.{accepted-refused}
 use Rattle.rules.proofs.Reading.Reader.{reading-unique, answered-unique}
 use Rattle.statements.specs.Answer.{said}
-use Rattle.statements.specs.Passes.{Starts, Passed, follows, is-refused, Ran}
+use Rattle.statements.specs.Passes.{AtStart, Concluded, is-accepted, is-refused, OnePass}
 use Rattle.statements.specs.declared.cursor.Cursor.{Cursor}
 use Rattle.statements.specs.declared.passes.Run.{Run}
 use Rattle.statements.specs.declared.Reading.{Reading}
 use Rattle.statements.specs.declared.Reading.the-variants.{Accepted, TooLong, ForeignByte, LeftOpen, NoForm, PastLimit, Misplaced, OtherName, TooDeep, EndNotSetOff, EndsEarly, NoRoom}
-use Rattle.statements.proofs.Answers.{not-both}
 
 -- the answer of a code, a place and a length
 abbrev answer : ℕ → ℕ → ℕ → Reading
@@ -58,8 +58,8 @@ record Same (before after after′ : List ℕ) (r r′ : Reading) : Type 0 where
   pub answer : r ≡ r′
   pub room : (p n : ℕ) → r ≡ Accepted p n → n ≤ length before → after ≡ after′
 
-passed-once : {label before after after′ : List ℕ} {r r′ : Reading} → length label ≤ 65535 → Passed label before after r → Passed label before after′ r′ → Same before after after′ r r′
-passed-once {before = before} s (follows {rows} {i} {n} j c h) (follows {rows = rows′} {i = i′} {n = n′} j′ c′ h′) =
+concluded-once : {label before after after′ : List ℕ} {r r′ : Reading} → length label ≤ longest → Concluded label before after r → Concluded label before after′ r′ → Same before after after′ r r′
+concluded-once {before = before} s (is-accepted {rows} {i} {n} j c h) (is-accepted {rows = rows′} {i = i′} {n = n′} j′ c′ h′) =
     let u = reading-unique base (read s j) (read s j′) in
     let a : rows ≡ rows′ = cc in
     let b : i ≡ i′ = cc in
@@ -70,20 +70,20 @@ passed-once {before = before} s (follows {rows} {i} {n} j c h) (follows {rows = 
           let g : n ≤ length before = omega (arith, accepted-length e) in
           h g ∙ ap₂ (λ (l : List Row) (k : ℕ). table l ++ drop k before) a d ∙ sym (h′ (omega arith));
     }
-passed-once s (follows j c h) (is-refused j′ k q) = absurd (not-both (reading-unique base (read s j) (read s j′)))
-passed-once s (is-refused j k q) (follows j′ c h) = absurd (not-both (reading-unique base (read s j′) (read s j)))
-passed-once s (is-refused {c} {i} j k q) (is-refused {c = c′} {i = i′} j′ k′ q′) =
+concluded-once s (is-accepted j c h) (is-refused j′ k q) = absurd (accepted-refused (reading-unique base (read s j) (read s j′)))
+concluded-once s (is-refused j k q) (is-accepted j′ c h) = absurd (accepted-refused (reading-unique base (read s j′) (read s j)))
+concluded-once s (is-refused {c} {i} j k q) (is-refused {c = c′} {i = i′} j′ k′ q′) =
     let u = reading-unique base (read s j) (read s j′) in
     let a : c ≡ c′ = cc in
     let b : i ≡ i′ = cc in
-    let z = said-once (q ∙ ap₂ (λ (x y : ℕ). record { code = x; place = y; size = 0 }) a b ∙ sym q′) in
+    let z = said-once (q ∙ ap₂ (λ (x y : ℕ). says x y 0) a b ∙ sym q′) in
     record { answer = z; room = λ p n e f. absurd (omega (arith, k, sym (ap (λ (s : Said). s .code) q) ∙ ap (λ (r : Reading). said r .code) e)) }
 
-pub pass-once : {label before after after′ : List ℕ} {r r′ : Run} → length label ≤ 65535 → Ran label before after r → Ran label before after′ r′ →
+pub pass-once : {label before after after′ : List ℕ} {r r′ : Run} → length label ≤ longest → OnePass label before after r → OnePass label before after′ r′ →
     (r .reading ≡ r′ .reading) × ((p n : ℕ) → r .reading ≡ Accepted p n → n ≤ length before → after ≡ after′)
-pass-once s a b = let u = passed-once s (a .passed) (b .passed) in (u .answer, u .room)
+pass-once s a b = let u = concluded-once s (a .concluded) (b .concluded) in (u .answer, u .room)
 
-pub start-once : {c c′ : Cursor} → Starts c → Starts c′ → c ≡ c′
+pub start-once : {c c′ : Cursor} → AtStart c → AtStart c′ → c ≡ c′
 start-once {c} {c′} a b =
     let s : c .state ≡ c′ .state = a .state ∙ sym (b .state) in
     let o : c .blocks ≡ c′ .blocks = a .blocks ∙ sym (b .blocks) in

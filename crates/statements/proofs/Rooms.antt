@@ -1,37 +1,16 @@
 -- Rooms: a row added behind what is there, and a table copied.
 use mathlib.Core.Path.{_≡_, refl, sym, ap, _∙_}
 use mathlib.Core.List.{List, [], _++_, append-assoc, append-nil}
-use Prim.Native.Nat.{ℕ, suc, _+_, _-_, _<_, _≤_}
-use native.Mathlib.Nat.{le-refl, le-of-lt}
-use native.Mathlib.Numerals.{add-one}
+use Prim.Native.Nat.{ℕ, _+_, _-_, _<_, _≤_}
+use native.Mathlib.Nat.{le-refl}
 use native.Mathlib.Omega.{arith}
 use borrow.Rule.Slice.PartMut.{midOf, putMid}
-use lib.ListN.{length, getD, set, take, drop, length-append, length-take, length-drop, drop-of-length-le}
-use lib.Seq.{take-all, take-at, drop-at, drop-drop, drop-cons, set-at, take-suc, append-snoc, length-take-le}
-use Rattle.rules.specs.Table.{table}
-use Rattle.rows.specs.Rows.{rowsOf, Wrote}
-use Rattle.rows.specs.declared.Row.{Row}
-use Rattle.rows.specs.declared.Row.the-variants as rows
+use lib.ListN.{length, take, drop, length-append, length-take, length-drop, drop-of-length-le}
+use lib.Seq.{take-all, take-at, drop-at, drop-drop, length-take-le}
+use Rattle.rows.specs.Rows.{longestRow, Wrote}
+use Rattle.output.specs.Puts.{Puts}
+use Rattle.output.proofs.Laws.{fits}
 use Rattle.statements.specs.Passes.{Added}
-
-pub short-row : (w : Row) → length (table (rowsOf w)) ≤ 15
-short-row rows.Nothing = omega arith
-short-row (rows.Attribute a b) = omega arith
-short-row (rows.Pointer a b) = omega arith
-short-row (rows.Open k a b) = omega arith
-short-row (rows.Close k) = omega arith
-short-row (rows.Integer m n) = omega arith
-short-row (rows.Float x) = omega arith
-short-row (rows.Time x) = omega arith
-short-row (rows.Text a b) = omega arith
-short-row (rows.Symbol a b) = omega arith
-short-row (rows.Unit p a b m n) = omega arith
-short-row rows.Sequence = omega arith
-short-row rows.SequenceEnd = omega arith
-short-row rows.Set = omega arith
-short-row rows.SetEnd = omega arith
-short-row (rows.Last a) = omega arith
-short-row (rows.Stop c p) = omega arith
 
 module _ (w room out : List ℕ) (n m : ℕ) (h : n ≤ length room) (i : length w ≤ length room - n) (x : Wrote w (midOf n (length room - n) room) out m) where
   in-room : putMid n (length room - n) room out ≡ take n room ++ (w ++ drop (n + length w) room)
@@ -40,7 +19,7 @@ module _ (w room out : List ℕ) (n m : ℕ) (h : n ≤ length room) (i : length
       let all : take (length room - n) (drop n room) ≡ drop n room = take-all (length room - n) (drop n room) (simp length-drop (le-refl _)) in
       rw (none, append-nil, x .bytes, all, drop-drop)
 
-  pub added : length w ≤ 15 → Added w n room (putMid n (length room - n) room out) (n + m)
+  pub added : length w ≤ longestRow → Added w n room (putMid n (length room - n) room out) (n + m)
   added j = record {
     next = ap (λ (k : ℕ). n + k) (x .count);
     small = j;
@@ -49,7 +28,7 @@ module _ (w room out : List ℕ) (n m : ℕ) (h : n ≤ length room) (i : length
     bytes = λ z. in-room;
   }
 
-pub not-added : (w room : List ℕ) (n k r : ℕ) → k ≡ length w → length w ≤ 15 → length room < n + length w → r ≡ n + k → Added w n room room r
+pub not-added : (w room : List ℕ) (n k r : ℕ) → k ≡ length w → length w ≤ longestRow → length room < n + length w → r ≡ n + k → Added w n room room r
 not-added w room n k r e j h q = record { next = q ∙ ap (λ (z : ℕ). n + z) e; small = j; long = refl; front = refl; bytes = λ z. absurd (omega arith) }
 
 -- w behind what is already there
@@ -60,10 +39,12 @@ behind t w room out n c h =
     let late : drop (n + length w) out ≡ drop (n + length w) room = sym (drop-drop (length w) n out) ∙ ap (drop (length w)) back ∙ drop-drop (length w) n room in
     rw (front, late, append-assoc)
 
--- a copy, one byte a turn
-pub more : (w d : List ℕ) (i : ℕ) → i < length w → i < length d → set (take i w ++ drop i d) i (getD w i 0) ≡ take (i + 1) w ++ drop (i + 1) d
-more w d i hw hd =
-    rw (add-one, drop-cons d i 0 hd, set-at (take i w) (getD d i 0) (drop (suc i) d) (getD w i 0) i (length-take-le i w (le-of-lt hw)), take-suc w i 0 hw, append-snoc)
+-- a room that begins with the first n bytes of w
+pub copied-front : (w room : List ℕ) (n : ℕ) {out : List ℕ} {m : ℕ} → Puts (take (n - 0) w) room out m → n ≤ length w → n ≤ length room → out ≡ take n w ++ drop n room
+copied-front w room n p h k =
+    let i : n - 0 ≡ n = omega arith in
+    let j : length (take n w) ≡ n = length-take-le n w h in
+    rw j at (fits (rw i at p) (omega (arith, j)))
 
 -- what lies beyond a copy is as it was
 beyond : (w d : List ℕ) (k j : ℕ) → k ≤ length w → drop (k + j) (take k w ++ drop k d) ≡ drop (k + j) d

@@ -4,7 +4,7 @@ use blocks::Blocks;
 use blocks::no_blocks;
 use steps::State;
 ghost use mathlib.Core.Path.{_≡_};
-ghost use Rattle.statements.specs.Passes.{Starts};
+ghost use Rattle.statements.specs.Passes.{AtStart};
 
 // The next element is looked for at `at`, and the table so far has n bytes.
 pub struct Cursor {
@@ -27,7 +27,7 @@ pub fn standing(state: State, blocks: Blocks, at: usize, n: usize) -> Cursor
 
 // Where every reading begins.
 pub fn start() -> Cursor
-    ensures { λ r. ⌜ Starts r ⌝ }
+    ensures { λ r. ⌜ AtStart r ⌝ }
 {
     standing(first_state(), no_blocks(), 0, 0)
 }

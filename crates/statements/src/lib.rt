@@ -3,8 +3,10 @@ mod cursor; // cursor.rt: where a reading stands
 mod passes; // passes.rt: one pass over the label
 mod stack; // stack.rt: the open blocks
 
+use classes::LONGEST_LABEL;
+use classes::OWN_ROOM;
 use cursor::start;
-use passes::copy;
+use output::put_bytes;
 use passes::pass;
 ghost use mathlib.Core.Path.{_≡_};
 ghost use Rattle.rules.specs.Modes.{base};
@@ -51,7 +53,7 @@ pub fn place_of(r: Reading) -> usize
 {
     match r {
         Reading::Accepted(p, _) => p,
-        Reading::TooLong => 65535,
+        Reading::TooLong => LONGEST_LABEL,
         Reading::ForeignByte(p) => p,
         Reading::LeftOpen(p) => p,
         Reading::NoForm(p) => p,
@@ -80,10 +82,10 @@ pub fn length_of(r: Reading) -> usize
 pub fn read(label: &[u8], table: &mut [u8]) -> Reading
     ensures { λ r. ⌜ Answered base (now (label .entry)) (now (table .entry)) (said r) (now (table .exit)) ⌝ }
 {
-    if 65535 < label.len() {
+    if LONGEST_LABEL < label.len() {
         return Reading::TooLong;
     }
-    let mut own = [0u8; 16384];
+    let mut own = [0u8; OWN_ROOM];
     let first = pass(label, &mut own, start());
     let r = first.reading;
     let Reading::Accepted(place, n) = r else {
@@ -92,12 +94,13 @@ pub fn read(label: &[u8], table: &mut [u8]) -> Reading
     if table.len() < n {
         return Reading::NoRoom(place, n);
     }
-    if n <= 16384 {
-        copy(&own, table, n);
+    if n <= OWN_ROOM {
+        put_bytes(table, &own[0..n]);
         return Reading::Accepted(place, n);
     }
     let full = first.full;
-    copy(&own, table, full.n);
+    let k = full.n;
+    put_bytes(table, &own[0..k]);
     let rest = pass(label, table, full);
     rest.reading
 }

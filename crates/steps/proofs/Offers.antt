@@ -1,5 +1,5 @@
 -- What an offer has for an element of the code, by the element's number.
-use Prim.Native.Nat.{ℕ, _-_}
+use Prim.Native.Nat.{ℕ}
 use native.Mathlib.Omega.{arith}
 use mathlib.Core.Path.{_≡_, refl, sym, ap, _∙_}
 use mathlib.Core.Bool.{true, cond}
@@ -10,14 +10,13 @@ use types.Run.{OneOf, miss}
 use denote.Enum.Declared.{tagOf, declared}
 use Rattle.rules.specs.Data as rule
 use Rattle.rules.specs.Data.{Fixed-discrete}
-use Rattle.rules.proofs.Grammar.Machine.{Entry, _⇒_, Next, never, Offer, find, decided, dispatch, also, only, a-name, a-whole}
+use Rattle.rules.proofs.Machine.Statements.{Entry, _⇒_, Next, never, Offer, find, chosen, dispatch, also, only, a-name, a-whole}
 use Rattle.words.specs.Says.{fixedOf}
 use Rattle.steps.specs.Signs.{codeOf, wordCode, signOf}
 use Rattle.elements.specs.Next.{placedOf}
 use Rattle.elements.specs.declared.Element.{Element}
 use Rattle.elements.specs.declared.Element.the-variants.{Name, The, End, Integer, Based, Float, Time, Text, Symbol}
 use Rattle.words.specs.declared.Fixed as code
-use Rattle.words.specs.declared.Fixed.the-variants as word
 use Rattle.elements.proofs.Element.{enum}
 
 -- the entry of a number
@@ -54,37 +53,18 @@ decoded rule.rbrace = refl
 decoded rule.power = refl
 decoded rule.semicolon = refl
 
-word-code : (k : code.Fixed) → wordCode k ≡ codeOf (fixedOf k)
-word-code word.Object = refl
-word-code word.EndObject = refl
-word-code word.Group = refl
-word-code word.EndGroup = refl
-word-code word.BeginObject = refl
-word-code word.Equals = refl
-word-code word.Comma = refl
-word-code word.Star = refl
-word-code word.Slash = refl
-word-code word.Caret = refl
-word-code word.Less = refl
-word-code word.Greater = refl
-word-code word.OpenParen = refl
-word-code word.CloseParen = refl
-word-code word.OpenBrace = refl
-word-code word.CloseBrace = refl
-word-code word.Power = refl
-
 apart : (j k : rule.Fixed) → (j ≡ k → ⊥) → codeOf j ≡ codeOf k → ⊥
 apart j k h q = h (sym (decoded j) ∙ ap decode q ∙ decoded k)
 
 -- ---- an entry, found or passed over
 
-found : (j k : rule.Fixed) (n m : Next) (d : Dec (j ≡ k)) → decided d n m ≡ cond (eqb (codeOf j) (codeOf k)) n m
-found j k n m (yes p) = rw (eq-eqb (codeOf j) (codeOf k) (ap codeOf p))
-found j k n m (no h) = rw (ne-eqb (codeOf j) (codeOf k) (apart j k h))
+entry-of : (j k : rule.Fixed) (n m : Next) (d : Dec (j ≡ k)) → chosen d n m ≡ cond (eqb (codeOf j) (codeOf k)) n m
+entry-of j k n m (yes p) = rw (eq-eqb (codeOf j) (codeOf k) (ap codeOf p))
+entry-of j k n m (no h) = rw (ne-eqb (codeOf j) (codeOf k) (apart j k h))
 
 finds : (l : List Entry) (k : rule.Fixed) → find l k ≡ look l (codeOf k)
 finds [] k = refl
-finds (j ⇒ n ∷ l) k = found j k n (find l k) (Fixed-discrete j k) ∙ ap (λ (m : Next). cond (eqb (codeOf j) (codeOf k)) n m) (finds l k)
+finds (j ⇒ n ∷ l) k = entry-of j k n (find l k) (Fixed-discrete j k) ∙ ap (λ (m : Next). cond (eqb (codeOf j) (codeOf k)) n m) (finds l k)
 
 none : (n : ℕ) → 0 ≡ n → ltb 0 n ≡ true → ⊥
 none n e h = omega (arith, ltb-true 0 n h)
@@ -92,7 +72,7 @@ none n e h = omega (arith, ltb-true 0 n h)
 -- an element of the number n has the offer's entry of that number
 pub hit : (f : Offer) (label : List ℕ) (e : Element) (n : ℕ) → signOf e ≡ n → ltb 0 n ≡ true → dispatch f (placedOf label e) ≡ look (f .fixed) n
 unfolding signOf
-hit f label (The k a b) n q h = finds (f .fixed) (fixedOf k) ∙ ap (look (f .fixed)) (sym (word-code k) ∙ q)
+hit f label (The k a b) n q h = finds (f .fixed) (fixedOf k) ∙ ap (look (f .fixed)) q
 hit f label (Name a b) n q h = absurd (none n q h)
 hit f label (End v a b) n q h = absurd (none n q h)
 hit f label (Integer m v a b) n q h = absurd (none n q h)
@@ -107,8 +87,8 @@ pub pass : (f : Offer) (label : List ℕ) (e : Element) (j : rule.Fixed) (n : Ne
     (signOf e ≡ codeOf j → ⊥) → dispatch (also (j ⇒ n) f) (placedOf label e) ≡ dispatch f (placedOf label e)
 unfolding signOf
 pass f label (The k a b) j n h =
-    found j (fixedOf k) n (find (f .fixed) (fixedOf k)) (Fixed-discrete j (fixedOf k))
-    ∙ rw (ne-eqb (codeOf j) (codeOf (fixedOf k)) (λ q. h (word-code k ∙ sym q)))
+    entry-of j (fixedOf k) n (find (f .fixed) (fixedOf k)) (Fixed-discrete j (fixedOf k))
+    ∙ rw (ne-eqb (codeOf j) (codeOf (fixedOf k)) (λ q. h (sym q)))
 pass f label (Name a b) j n h = refl
 pass f label (End v a b) j n h = refl
 pass f label (Integer m v a b) j n h = refl
@@ -119,16 +99,16 @@ pass f label (Text a b) j n h = refl
 pass f label (Symbol a b) j n h = refl
 
 -- where nothing is listed, nothing is taken
-pub nothing : (label : List ℕ) (e : Element) → dispatch (only []) (placedOf label e) ≡ never
-nothing label (The k a b) = refl
-nothing label (Name a b) = refl
-nothing label (End v a b) = refl
-nothing label (Integer m v a b) = refl
-nothing label (Based m v a b) = refl
-nothing label (Float x a b) = refl
-nothing label (Time x a b) = refl
-nothing label (Text a b) = refl
-nothing label (Symbol a b) = refl
+pub none-taken : (label : List ℕ) (e : Element) → dispatch (only []) (placedOf label e) ≡ never
+none-taken label (The k a b) = refl
+none-taken label (Name a b) = refl
+none-taken label (End v a b) = refl
+none-taken label (Integer m v a b) = refl
+none-taken label (Based m v a b) = refl
+none-taken label (Float x a b) = refl
+none-taken label (Time x a b) = refl
+none-taken label (Text a b) = refl
+none-taken label (Symbol a b) = refl
 
 -- an element of another sort has no number
 pub no-sign : (e : Element) → OneOf (0 ∷ 2 ∷ 3 ∷ 4 ∷ 5 ∷ 6 ∷ 7 ∷ 8 ∷ []) (tagOf (declared enum) e) → 0 ≡ signOf e
@@ -158,7 +138,7 @@ Avoids c [] = Unit {0}
 Avoids c (n ∷ ns) = (c ≡ n → ⊥) × Avoids c ns
 
 pub pass-all : (l : List Entry) (label : List ℕ) (e : Element) → Avoids (signOf e) (keys l) → dispatch (only l) (placedOf label e) ≡ never
-pass-all [] label e h = nothing label e
+pass-all [] label e h = none-taken label e
 pass-all (j ⇒ n ∷ l) label e h = pass (only l) label e j n (h .0) ∙ pass-all l label e (h .1)
 
 -- ---- offers of one sort of element

@@ -1,4 +1,4 @@
 -- The terms of this crate's contracts.
 pub mod Signs
-pub mod Decides
 pub mod States
+pub mod Steps

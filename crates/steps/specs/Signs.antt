@@ -1,19 +1,14 @@
--- The words and signs of one spelling by number, as the code tells them apart, and names that are the same.
+-- The words and signs of one spelling by number, as the code tells them apart.
 use Prim.Native.Nat.{ℕ}
-use mathlib.Core.List.{List, map}
-use mathlib.Core.Path.{_≡_}
-use Rattle.rules.specs.Bytes.{fold}
 use Rattle.rules.specs.Data as rule
+use Rattle.words.specs.Says.{fixedOf}
 use Rattle.words.specs.declared.Fixed as code
-use Rattle.words.specs.declared.Fixed.the-variants as word
 use Rattle.elements.specs.declared.Element.{Element}
 use Rattle.elements.specs.declared.Element.the-variants.{Name, The, End, Integer, Based, Float, Time, Text, Symbol}
+use Rattle.rows.specs.declared.Kind as kind
+use Rattle.rows.specs.declared.Kind.the-variants as kinds
 
--- two runs of bytes are one name
-unfoldable pub SameName : List ℕ → List ℕ → Type 0
-SameName w k = map fold w ≡ map fold k
-
--- a number for each word and sign of one spelling
+-- a sign's number is its byte
 abbrev pub codeOf : rule.Fixed → ℕ
 codeOf rule.OBJECT = 1
 codeOf rule.END-OBJECT = 2
@@ -36,23 +31,12 @@ codeOf rule.power = 33
 codeOf rule.semicolon = 59
 
 abbrev pub wordCode : code.Fixed → ℕ
-wordCode word.Object = 1
-wordCode word.EndObject = 2
-wordCode word.Group = 3
-wordCode word.EndGroup = 4
-wordCode word.BeginObject = 5
-wordCode word.Equals = 61
-wordCode word.Comma = 44
-wordCode word.Star = 42
-wordCode word.Slash = 47
-wordCode word.Caret = 94
-wordCode word.Less = 60
-wordCode word.Greater = 62
-wordCode word.OpenParen = 40
-wordCode word.CloseParen = 41
-wordCode word.OpenBrace = 123
-wordCode word.CloseBrace = 125
-wordCode word.Power = 33
+wordCode k = codeOf (fixedOf k)
+
+-- of the words that open a block
+abbrev pub openCode : kind.Kind → ℕ
+openCode kinds.Object = codeOf rule.OBJECT
+openCode kinds.Group = codeOf rule.GROUP
 
 -- the number of such an element, 0 for any other
 unfoldable pub signOf : Element → ℕ

@@ -1,85 +1,129 @@
--- What the code's states, open blocks and rows mean in the rules' machine, and what a step says.
+-- What the code's states and open blocks mean in the rules' machine, and how states are made.
 use Prim.Native.Nat.{ℕ}
 use mathlib.Core.Path.{_≡_}
-use mathlib.Core.Bool.{Bool, true, false, cond}
+use mathlib.Core.Bool.{Bool, false}
 use mathlib.Core.List.{List, [], _∷_}
-use lib.Dec.{leb, eqb}
-use Rattle.rules.specs.Data as rule
-use Rattle.rules.specs.Modes.{base}
-use Rattle.rules.specs.Grammar.{strict}
-use Rattle.rules.proofs.Grammar.Machine as machine
-use Rattle.elements.specs.Next.{nameAt, span, placedOf, placeOf}
-use Rattle.elements.specs.declared.Element.{Element}
-use Rattle.elements.specs.declared.Element.the-variants.{Name}
-use Rattle.rows.specs.Rows.{kindOf, opOf, rowsOf}
+use lib.Dec.{leb}
+use Rattle.rules.proofs.Machine.Statements as machine
+use Rattle.classes.specs.Places.{asSpan, nameAt}
+use Rattle.rows.specs.Rows.{deepest, kindOf, opOf, placeIn}
+use Rattle.rows.specs.Decoding.{kindBack, opBack}
 use Rattle.rows.specs.declared.Kind as kind
 use Rattle.rows.specs.declared.Kind.the-variants as kinds
 use Rattle.rows.specs.declared.Op as op
 use Rattle.rows.specs.declared.Op.the-variants as ops
-use Rattle.rows.specs.declared.Row.{Row}
-use Rattle.rows.specs.declared.Row.the-variants as rows
-use Rattle.blocks.specs.Stack.{Block, block, many, topOf, rest}
+use Rattle.rows.specs.declared.Nest as nest
+use Rattle.rows.specs.declared.Nest.the-variants as nests
+use Rattle.blocks.specs.Stack.{Block, block, many, topOf}
 use Rattle.blocks.specs.declared.Top as top
 use Rattle.blocks.specs.declared.Top.the-variants as tops
-use Rattle.steps.specs.Signs.{signOf}
-use Rattle.steps.specs.declared.Nest as nest
-use Rattle.steps.specs.declared.Nest.the-variants as nests
-use Rattle.steps.specs.declared.Mode.{Mode}
-use Rattle.steps.specs.declared.Mode.the-variants as modes
+use Rattle.steps.specs.declared.Awaited.{Awaited}
+use Rattle.steps.specs.declared.Awaited.the-variants as await
 use Rattle.steps.specs.declared.State.{State}
-use Rattle.steps.specs.declared.Stepped.{Stepped}
-
--- the numbers of the words that open a block
-abbrev pub openCode : kind.Kind → ℕ
-openCode kinds.Object = 1
-openCode kinds.Group = 3
-
-abbrev pub placeIn : nest.Nest → machine.Place
-placeIn nests.Alone = machine.alone
-placeIn nests.Sequence = machine.within machine.in-sequence
-placeIn nests.Row = machine.within machine.in-row
-placeIn nests.Set = machine.within machine.in-set
 
 -- ---- the state
 
-abbrev pub stateIn : List ℕ → Mode → State → machine.State
-stateIn label modes.Statement t = machine.at-semicolon
-stateIn label modes.Equals t = machine.at-equals
-stateIn label modes.Pointer t = machine.at-pointer
-stateIn label modes.BlockEquals t = machine.at-opener (kindOf (t .kind))
-stateIn label modes.BlockName t = machine.at-opened (kindOf (t .kind))
-stateIn label modes.Closed t = machine.at-closer (nameAt label (t .from) (t .upto))
-stateIn label modes.ClosingName t = machine.at-closed (nameAt label (t .from) (t .upto))
-stateIn label modes.Value t = machine.at-scalar (placeIn (t .nest)) machine.any-value
-stateIn label modes.Member t = machine.at-scalar (placeIn (t .nest)) machine.no-else
-stateIn label modes.FirstMember t = machine.at-scalar (placeIn (t .nest)) machine.a-row
-stateIn label modes.FirstOfSet t = machine.at-scalar (placeIn (t .nest)) machine.a-set-end
-stateIn label modes.AfterNumber t = machine.at-number (placeIn (t .nest))
-stateIn label modes.InSequence t = machine.at-member machine.in-sequence
-stateIn label modes.InRow t = machine.at-member machine.in-row
-stateIn label modes.InSet t = machine.at-member machine.in-set
-stateIn label modes.UnitName t = machine.at-unit (placeIn (t .nest)) (opOf (t .op))
-stateIn label modes.AfterUnit t = machine.at-power (placeIn (t .nest)) (opOf (t .op)) (span (t .from) (t .upto))
-stateIn label modes.Exponent t = machine.at-exponent (placeIn (t .nest)) (opOf (t .op)) (span (t .from) (t .upto))
-stateIn label modes.AfterExponent t = machine.at-factor (placeIn (t .nest))
-stateIn label modes.AfterRow t = machine.at-row
-stateIn label modes.Ended t = machine.at-end
+abbrev pub stateIn : List ℕ → Awaited → State → machine.State
+stateIn label await.Statement t = machine.at-semicolon
+stateIn label await.Equals t = machine.at-equals
+stateIn label await.Pointer t = machine.at-pointer
+stateIn label await.BlockEquals t = machine.at-opener (kindOf (t .kind))
+stateIn label await.BlockName t = machine.at-opened (kindOf (t .kind))
+stateIn label await.Closed t = machine.at-closer (nameAt label (t .from) (t .upto))
+stateIn label await.ClosingName t = machine.at-closed (nameAt label (t .from) (t .upto))
+stateIn label await.Value t = machine.at-scalar (placeIn (t .nest)) machine.any-value
+stateIn label await.Member t = machine.at-scalar (placeIn (t .nest)) machine.no-else
+stateIn label await.FirstMember t = machine.at-scalar (placeIn (t .nest)) machine.a-row
+stateIn label await.FirstOfSet t = machine.at-scalar (placeIn (t .nest)) machine.a-set-end
+stateIn label await.AfterNumber t = machine.at-number (placeIn (t .nest))
+stateIn label await.InSequence t = machine.at-member machine.in-sequence
+stateIn label await.InRow t = machine.at-member machine.in-row
+stateIn label await.InSet t = machine.at-member machine.in-set
+stateIn label await.UnitName t = machine.at-unit (placeIn (t .nest)) (opOf (t .op))
+stateIn label await.AfterUnit t = machine.at-power (placeIn (t .nest)) (opOf (t .op)) (asSpan (t .from) (t .upto))
+stateIn label await.Exponent t = machine.at-exponent (placeIn (t .nest)) (opOf (t .op)) (asSpan (t .from) (t .upto))
+stateIn label await.AfterExponent t = machine.at-factor (placeIn (t .nest))
+stateIn label await.AfterRow t = machine.at-row
+stateIn label await.Ended t = machine.at-end
 
 abbrev pub stateOf : List ℕ → State → machine.State
-stateOf label t = stateIn label (t .mode) t
+stateOf label t = stateIn label (t .awaited) t
 
--- what follows a scalar
-abbrev pub followingIn : nest.Nest → Mode
-followingIn nests.Alone = modes.Statement
-followingIn nests.Sequence = modes.InSequence
-followingIn nests.Row = modes.InRow
-followingIn nests.Set = modes.InSet
+-- what is awaited after a scalar, by what it is a member of
+abbrev pub followingIn : nest.Nest → Awaited
+followingIn nests.Alone = await.Statement
+followingIn nests.Sequence = await.InSequence
+followingIn nests.Row = await.InRow
+followingIn nests.Set = await.InSet
 
--- ---- the open blocks, the innermost first: kind, start and end of the name
+-- ---- states made from a state
 
-abbrev pub opensOf : List ℕ → List Block → rule.Opens
-opensOf label [] = rule.outside
-opensOf label (block k a b ∷ bs) = rule.inside (kindOf k) (nameAt label a b) (opensOf label bs)
+-- what it knows of the open blocks, and the name in hand, are as they were
+abbrev pub stateWith : State → Awaited → nest.Nest → kind.Kind → op.Op → State
+stateWith t a n k o = record { awaited = a; nest = n; kind = k; op = o; top = t .top; full = t .full; from = t .from; upto = t .upto }
+
+abbrev pub awaiting : State → Awaited → State
+awaiting t a = stateWith t a (t .nest) (t .kind) (t .op)
+
+-- the name from a to b is in hand
+abbrev pub named : State → ℕ → ℕ → State
+named t a b = record { awaited = t .awaited; nest = t .nest; kind = t .kind; op = t .op; top = t .top; full = t .full; from = a; upto = b }
+
+-- the innermost block's name is in hand
+abbrev pub closing : List Block → State → State
+closing [] t = t
+closing (block k a b ∷ bs) t = named t a b
+
+-- the state that a reading begins with
+abbrev pub firstState : State
+firstState =
+    record {
+      awaited = await.Statement;
+      nest = nests.Alone;
+      kind = kinds.Object;
+      op = ops.First;
+      top = tops.Outside;
+      full = false;
+      from = 0;
+      upto = 0;
+    }
+
+-- ---- the machine's state as the code's
+
+abbrev pub nestIn : machine.Place → nest.Nest
+nestIn machine.alone = nests.Alone
+nestIn (machine.within machine.in-sequence) = nests.Sequence
+nestIn (machine.within machine.in-row) = nests.Row
+nestIn (machine.within machine.in-set) = nests.Set
+
+-- The state after t that stands for the machine's: what a step on the way there sets is the machine's, and the rest is as in t. No state of
+-- the code stands for two of the machine's.
+abbrev pub ledTo : State → machine.State → State
+ledTo t machine.at-statement = t
+ledTo t machine.at-semicolon = awaiting t await.Statement
+ledTo t machine.at-equals = awaiting t await.Equals
+ledTo t machine.at-pointer = awaiting t await.Pointer
+ledTo t (machine.at-opener k) = stateWith t await.BlockEquals (t .nest) (kindBack k) (t .op)
+ledTo t (machine.at-opened k) = awaiting t await.BlockName
+ledTo t (machine.at-closer n) = awaiting t await.Closed
+ledTo t (machine.at-closed n) = awaiting t await.ClosingName
+ledTo t (machine.at-scalar c machine.any-value) = stateWith t await.Value (nestIn c) (t .kind) (t .op)
+ledTo t (machine.at-scalar c machine.no-else) = stateWith t await.Member (nestIn c) (t .kind) (t .op)
+ledTo t (machine.at-scalar c machine.a-row) = stateWith t await.FirstMember (nestIn c) (t .kind) (t .op)
+ledTo t (machine.at-scalar c machine.a-set-end) = stateWith t await.FirstOfSet (nestIn c) (t .kind) (t .op)
+ledTo t (machine.at-number c) = awaiting t await.AfterNumber
+ledTo t (machine.at-member machine.in-sequence) = awaiting t await.InSequence
+ledTo t (machine.at-member machine.in-row) = awaiting t await.InRow
+ledTo t (machine.at-member machine.in-set) = awaiting t await.InSet
+ledTo t machine.at-row = awaiting t await.AfterRow
+ledTo t machine.at-next-row = t
+ledTo t (machine.at-unit c o) = stateWith t await.UnitName (t .nest) (t .kind) (opBack o)
+ledTo t (machine.at-power c o p) = named (awaiting t await.AfterUnit) (p .from) (p .upto)
+ledTo t (machine.at-exponent c o p) = awaiting t await.Exponent
+ledTo t (machine.at-factor c) = awaiting t await.AfterExponent
+ledTo t machine.at-end = awaiting t await.Ended
+
+-- ---- the open blocks
 
 -- whether as many are open as may be: outside all blocks none is, whatever `full` holds, so every state sees some blocks
 abbrev pub fullIn : top.Top → Bool → Bool
@@ -93,217 +137,31 @@ isFull t = fullIn (t .top) (t .full)
 -- what the state knows of them
 pub record Sees (t : State) (bs : List Block) : Type 0 where
   pub top : t .top ≡ topOf bs
-  pub full : isFull t ≡ leb 80 (many bs)
-
--- ---- what a step says
-
-pub data Said : Type 0 where
-  stops : ℕ → ℕ → Said
-  goes : machine.State → rule.Opens → List rule.Row → Said
-
--- the machine's answer, with the refused element's place
-abbrev pub placed : ℕ → machine.Answer → Said
-placed p (machine.refuses c) = stops c p
-placed p (machine.goes q o r) = goes q o r
-
--- the state with the innermost block's name in hand
-abbrev pub closing : List Block → State → State
-closing [] t = t
-closing (block k a b ∷ bs) t = record { mode = t .mode; nest = t .nest; kind = t .kind; op = t .op; top = t .top; full = t .full; from = a; upto = b }
-
--- what a row asks of the loop: nothing, a block opened or closed, an end, or a refusal
-pub data Effect : Type 0 where
-  stays closes ends : Effect
-  opens : kind.Kind → ℕ → ℕ → Effect
-  halts : ℕ → ℕ → Effect
-
-abbrev pub effect : Row → Effect
-effect rows.Nothing = stays
-effect (rows.Attribute a b) = stays
-effect (rows.Pointer a b) = stays
-effect (rows.Open k a b) = opens k a b
-effect (rows.Close k) = closes
-effect (rows.Integer m n) = stays
-effect (rows.Float x) = stays
-effect (rows.Time x) = stays
-effect (rows.Text a b) = stays
-effect (rows.Symbol a b) = stays
-effect (rows.Unit p a b m n) = stays
-effect rows.Sequence = stays
-effect rows.SequenceEnd = stays
-effect rows.Set = stays
-effect rows.SetEnd = stays
-effect (rows.Last a) = ends
-effect (rows.Stop c p) = halts c p
-
--- what a step says before its row is seen to: the blocks are still those before it
-abbrev pub saidOf : List ℕ → List Block → State → List rule.Row → Effect → Said
-saidOf label bs t l stays = goes (stateOf label t) (opensOf label bs) l
-saidOf label bs t l (opens k a b) = goes (stateOf label t) (opensOf label (block k a b ∷ bs)) l
-saidOf label bs t l closes = goes (stateOf label (closing bs t)) (opensOf label (rest bs)) l
-saidOf label bs t l ends = goes (stateOf label t) (opensOf label bs) l
-saidOf label bs t l (halts c p) = stops c p
-
-abbrev pub said : List ℕ → List Block → State → Row → Said
-said label bs t row = saidOf label bs t (rowsOf row) (effect row)
+  pub full : isFull t ≡ leb deepest (many bs)
 
 -- while a block is being opened there is room for it
-abbrev pub roomIn : Mode → Bool → Type 0
-roomIn modes.BlockEquals full = full ≡ false
-roomIn modes.BlockName full = full ≡ false
-roomIn modes.Statement full = Unit {0}
-roomIn modes.Equals full = Unit {0}
-roomIn modes.Pointer full = Unit {0}
-roomIn modes.Closed full = Unit {0}
-roomIn modes.ClosingName full = Unit {0}
-roomIn modes.Value full = Unit {0}
-roomIn modes.Member full = Unit {0}
-roomIn modes.FirstMember full = Unit {0}
-roomIn modes.FirstOfSet full = Unit {0}
-roomIn modes.AfterNumber full = Unit {0}
-roomIn modes.InSequence full = Unit {0}
-roomIn modes.InRow full = Unit {0}
-roomIn modes.InSet full = Unit {0}
-roomIn modes.UnitName full = Unit {0}
-roomIn modes.AfterUnit full = Unit {0}
-roomIn modes.Exponent full = Unit {0}
-roomIn modes.AfterExponent full = Unit {0}
-roomIn modes.AfterRow full = Unit {0}
-roomIn modes.Ended full = Unit {0}
+abbrev pub roomIn : Awaited → Bool → Type 0
+roomIn await.BlockEquals full = full ≡ false
+roomIn await.BlockName full = full ≡ false
+roomIn await.Statement full = Unit {0}
+roomIn await.Equals full = Unit {0}
+roomIn await.Pointer full = Unit {0}
+roomIn await.Closed full = Unit {0}
+roomIn await.ClosingName full = Unit {0}
+roomIn await.Value full = Unit {0}
+roomIn await.Member full = Unit {0}
+roomIn await.FirstMember full = Unit {0}
+roomIn await.FirstOfSet full = Unit {0}
+roomIn await.AfterNumber full = Unit {0}
+roomIn await.InSequence full = Unit {0}
+roomIn await.InRow full = Unit {0}
+roomIn await.InSet full = Unit {0}
+roomIn await.UnitName full = Unit {0}
+roomIn await.AfterUnit full = Unit {0}
+roomIn await.Exponent full = Unit {0}
+roomIn await.AfterExponent full = Unit {0}
+roomIn await.AfterRow full = Unit {0}
+roomIn await.Ended full = Unit {0}
 
 abbrev pub Room : State → Type 0
-Room t = roomIn (t .mode) (isFull t)
-
-abbrev pub isEnded : Mode → Bool
-isEnded modes.Statement = false
-isEnded modes.Equals = false
-isEnded modes.Pointer = false
-isEnded modes.BlockEquals = false
-isEnded modes.BlockName = false
-isEnded modes.Closed = false
-isEnded modes.ClosingName = false
-isEnded modes.Value = false
-isEnded modes.Member = false
-isEnded modes.FirstMember = false
-isEnded modes.FirstOfSet = false
-isEnded modes.AfterNumber = false
-isEnded modes.InSequence = false
-isEnded modes.InRow = false
-isEnded modes.InSet = false
-isEnded modes.UnitName = false
-isEnded modes.AfterUnit = false
-isEnded modes.Exponent = false
-isEnded modes.AfterExponent = false
-isEnded modes.AfterRow = false
-isEnded modes.Ended = true
-
--- ---- what a step leaves as it was
-
--- what a step may set besides the mode: nothing, what a scalar is a member of, the kind of a block, an operator, or a unit's name
-pub data Field : Type 0 where
-  no-field its-nest its-kind its-op its-name : Field
-
-abbrev pub fieldOf : Mode → Field
-fieldOf modes.Statement = no-field
-fieldOf modes.Equals = no-field
-fieldOf modes.Pointer = no-field
-fieldOf modes.BlockEquals = its-kind
-fieldOf modes.BlockName = no-field
-fieldOf modes.Closed = no-field
-fieldOf modes.ClosingName = no-field
-fieldOf modes.Value = its-nest
-fieldOf modes.Member = its-nest
-fieldOf modes.FirstMember = its-nest
-fieldOf modes.FirstOfSet = its-nest
-fieldOf modes.AfterNumber = no-field
-fieldOf modes.InSequence = no-field
-fieldOf modes.InRow = no-field
-fieldOf modes.InSet = no-field
-fieldOf modes.UnitName = its-op
-fieldOf modes.AfterUnit = its-name
-fieldOf modes.Exponent = no-field
-fieldOf modes.AfterExponent = no-field
-fieldOf modes.AfterRow = no-field
-fieldOf modes.Ended = no-field
-
--- the state t with the mode and that field of s: all else is as it was, what is known of the open blocks too, since whoever opens or closes
--- one sees to that
-abbrev pub onlySet : Field → State → State → State
-onlySet no-field t s = record { mode = s .mode; nest = t .nest; kind = t .kind; op = t .op; top = t .top; full = t .full; from = t .from; upto = t .upto }
-onlySet its-nest t s = record { mode = s .mode; nest = s .nest; kind = t .kind; op = t .op; top = t .top; full = t .full; from = t .from; upto = t .upto }
-onlySet its-kind t s = record { mode = s .mode; nest = t .nest; kind = s .kind; op = t .op; top = t .top; full = t .full; from = t .from; upto = t .upto }
-onlySet its-op t s = record { mode = s .mode; nest = t .nest; kind = t .kind; op = s .op; top = t .top; full = t .full; from = t .from; upto = t .upto }
-onlySet its-name t s = record { mode = s .mode; nest = t .nest; kind = t .kind; op = t .op; top = t .top; full = t .full; from = s .from; upto = s .upto }
-
-abbrev pub inMode : State → Mode → State
-inMode t m = record { mode = m; nest = t .nest; kind = t .kind; op = t .op; top = t .top; full = t .full; from = t .from; upto = t .upto }
-
--- A block is opened by the name that is the element, where there is room, and a statement follows it; the last row stands outside all blocks,
--- and END comes with no other row; a refusal leaves the state.
-abbrev pub Settles : State → Element → State → Effect → Type 0
-Settles t e s stays = (isEnded (s .mode) ≡ false) × (s ≡ onlySet (fieldOf (s .mode)) t s)
-Settles t e s (opens k a b) = (e ≡ Name a b) × (Room t → isFull t ≡ false) × (s ≡ inMode t modes.Statement)
-Settles t e s closes = s ≡ inMode t modes.Closed
-Settles t e s ends = (s ≡ inMode t modes.Ended) × (t .top ≡ tops.Outside)
-Settles t e s (halts c p) = s ≡ t
-
-pub record Kept (t : State) (e : Element) (r : Stepped) : Type 0 where
-  pub room : Room t → Room (r .state)
-  pub settles : Settles t e (r .state) (effect (r .row))
-
--- The step that gave r, in the state t over the element e, is the machine's step in the state q, whatever the open blocks are that t sees.
-pub record Does (label : List ℕ) (t : State) (q : machine.State) (e : Element) (r : Stepped) : Type 0 where
-  pub kept : Kept t e r
-  pub does : (bs : List Block) → Sees t bs →
-      said label bs (r .state) (r .row) ≡ placed (placeOf e) (machine.step base strict q (opensOf label bs) (placedOf label e))
-
--- The mode that an element of the number c is met in: a number need not have a unit, nor the word that closes a block a name.
-abbrev pub metIn : Mode → nest.Nest → ℕ → Mode
-metIn modes.Statement n c = modes.Statement
-metIn modes.Equals n c = modes.Equals
-metIn modes.Pointer n c = modes.Pointer
-metIn modes.BlockEquals n c = modes.BlockEquals
-metIn modes.BlockName n c = modes.BlockName
-metIn modes.Closed n c = cond (eqb c 61) modes.Closed modes.Statement
-metIn modes.ClosingName n c = modes.ClosingName
-metIn modes.Value n c = modes.Value
-metIn modes.Member n c = modes.Member
-metIn modes.FirstMember n c = modes.FirstMember
-metIn modes.FirstOfSet n c = modes.FirstOfSet
-metIn modes.AfterNumber n c = cond (eqb c 60) modes.AfterNumber (followingIn n)
-metIn modes.InSequence n c = modes.InSequence
-metIn modes.InRow n c = modes.InRow
-metIn modes.InSet n c = modes.InSet
-metIn modes.UnitName n c = modes.UnitName
-metIn modes.AfterUnit n c = modes.AfterUnit
-metIn modes.Exponent n c = modes.Exponent
-metIn modes.AfterExponent n c = modes.AfterExponent
-metIn modes.AfterRow n c = modes.AfterRow
-metIn modes.Ended n c = modes.Ended
-
-pub record Met (t : State) (e : Element) (m : Mode) : Type 0 where
-  pub is : m ≡ metIn (t .mode) (t .nest) (signOf e)
-
--- ---- the answers that the code makes
-
-abbrev pub moved : State → Mode → Row → Stepped
-moved t m row = record { state = inMode t m; row = row }
-
-abbrev pub within : State → Mode → nest.Nest → Row → Stepped
-within t m n row = record { state = record { mode = m; nest = n; kind = t .kind; op = t .op; top = t .top; full = t .full; from = t .from; upto = t .upto }; row = row }
-
-abbrev pub unitNext : State → op.Op → Row → Stepped
-unitNext t p row = record { state = record { mode = modes.UnitName; nest = t .nest; kind = t .kind; op = p; top = t .top; full = t .full; from = t .from; upto = t .upto }; row = row }
-
-abbrev pub unitNamed : State → ℕ → ℕ → Stepped
-unitNamed t a b = record { state = record { mode = modes.AfterUnit; nest = t .nest; kind = t .kind; op = t .op; top = t .top; full = t .full; from = a; upto = b }; row = rows.Nothing }
-
-abbrev pub openingOf : State → kind.Kind → Stepped
-openingOf t k = record { state = record { mode = modes.BlockEquals; nest = t .nest; kind = k; op = t .op; top = t .top; full = t .full; from = t .from; upto = t .upto }; row = rows.Nothing }
-
-abbrev pub halted : State → ℕ → Element → Stepped
-halted t c e = record { state = t; row = rows.Stop c (placeOf e) }
-
--- the state that a reading begins with
-abbrev pub firstState : State
-firstState = record { mode = modes.Statement; nest = nests.Alone; kind = kinds.Object; op = ops.First; top = tops.Outside; full = false; from = 0; upto = 0 }
+Room t = roomIn (t .awaited) (isFull t)

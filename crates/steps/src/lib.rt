@@ -1,7 +1,7 @@
-// The step over one element: the state that it leads to from a state, and the row that it gives.
+// The step over one element: the state that it leads to from a state, and what it gives.
 mod lines; // lines.rt: names, blocks and END
 mod moves; // moves.rt: ways to go on from a state
-mod names; // names.rt: names compared
+mod signs; // signs.rt: what elements are told apart by
 mod units; // units.rt: units
 mod values; // values.rt: values
 
@@ -16,10 +16,16 @@ use lines::closed;
 use lines::closing_name;
 use lines::ended;
 use lines::pointer;
+pub use moves::END_NOT_SET_OFF;
+pub use moves::MISPLACED;
+pub use moves::OTHER_NAME;
+pub use moves::TOO_DEEP;
 use moves::settled;
 use rows::Kind;
+use rows::Nest;
 use rows::Op;
 use rows::Row;
+pub use signs::start_of;
 use units::after_exponent;
 use units::after_unit;
 use units::exponent;
@@ -32,18 +38,11 @@ use values::in_sequence;
 use values::in_set;
 use values::scalar;
 use values::value;
-ghost use Rattle.steps.specs.States.{stateOf, Does};
-
-// What a scalar is a member of.
-pub enum Nest {
-    Alone,
-    Sequence,
-    Row,
-    Set,
-}
+ghost use Rattle.steps.specs.States.{stateOf};
+ghost use Rattle.steps.specs.Steps.{Does};
 
 // What is awaited.
-pub enum Mode {
+pub enum Awaited {
     Statement,
     Equals,
     Pointer,
@@ -70,7 +69,7 @@ pub enum Mode {
 // The kind is the block's that is being opened; op, from and upto are the unit's, or the closing name's, in hand; top and full
 // are all that a step must know of the open blocks, so that it need not hold their arrays. Outside all blocks full counts for nothing.
 pub struct State {
-    pub mode: Mode,
+    pub awaited: Awaited,
     pub nest: Nest,
     pub kind: Kind,
     pub op: Op,
@@ -80,38 +79,49 @@ pub struct State {
     pub upto: usize,
 }
 
-// One element gives at most one row; a row that opens or closes a block asks the loop to do so.
-pub struct Stepped {
-    pub state: State,
-    pub row: Row,
+// What an element gives: nothing, the row beside it, or a stop with the code beside it. They stand beside it because an enum with a row
+// inside goes through memory at each element.
+pub enum Gives {
+    Nothing,
+    One,
+    Stop,
 }
 
-// Each mode has its function.
+// A row that opens or closes a block asks the loop to do so. Where no row is given, row is one filler; where there is no stop, code is 0.
+// A stop is at the element's own place, `start_of`.
+pub struct Stepped {
+    pub state: State,
+    pub gives: Gives,
+    pub row: Row,
+    pub code: u8,
+}
+
+// Each that can be awaited has its function.
 pub fn step(label: &[u8], t: State, e: Element) -> Stepped
     ensures { λ r. ⌜ Does (now (label .entry)) t (stateOf (now (label .entry)) t) e r ⌝ }
 {
-    let mode = settled(t, e);
-    match mode {
-        Mode::Statement => begin(label, t, e),
-        Mode::Equals => at_equals(label, t, e),
-        Mode::Pointer => pointer(label, t, e),
-        Mode::BlockEquals => block_equals(label, t, e),
-        Mode::BlockName => block_name(label, t, e),
-        Mode::Closed => closed(label, t, e),
-        Mode::ClosingName => closing_name(label, t, e),
-        Mode::Value => value(label, t, e),
-        Mode::Member => scalar(label, t, e),
-        Mode::FirstMember => first_member(label, t, e),
-        Mode::FirstOfSet => first_of_set(label, t, e),
-        Mode::AfterNumber => after_number(label, t, e),
-        Mode::InSequence => in_sequence(label, t, e),
-        Mode::InRow => in_row(label, t, e),
-        Mode::InSet => in_set(label, t, e),
-        Mode::UnitName => unit_name(label, t, e),
-        Mode::AfterUnit => after_unit(label, t, e),
-        Mode::Exponent => exponent(label, t, e),
-        Mode::AfterExponent => after_exponent(label, t, e),
-        Mode::AfterRow => after_row(label, t, e),
-        Mode::Ended => ended(label, t, e),
+    let awaited = settled(t, e);
+    match awaited {
+        Awaited::Statement => begin(label, t, e),
+        Awaited::Equals => at_equals(label, t, e),
+        Awaited::Pointer => pointer(label, t, e),
+        Awaited::BlockEquals => block_equals(label, t, e),
+        Awaited::BlockName => block_name(label, t, e),
+        Awaited::Closed => closed(label, t, e),
+        Awaited::ClosingName => closing_name(label, t, e),
+        Awaited::Value => value(label, t, e),
+        Awaited::Member => scalar(label, t, e),
+        Awaited::FirstMember => first_member(label, t, e),
+        Awaited::FirstOfSet => first_of_set(label, t, e),
+        Awaited::AfterNumber => after_number(label, t, e),
+        Awaited::InSequence => in_sequence(label, t, e),
+        Awaited::InRow => in_row(label, t, e),
+        Awaited::InSet => in_set(label, t, e),
+        Awaited::UnitName => unit_name(label, t, e),
+        Awaited::AfterUnit => after_unit(label, t, e),
+        Awaited::Exponent => exponent(label, t, e),
+        Awaited::AfterExponent => after_exponent(label, t, e),
+        Awaited::AfterRow => after_row(label, t, e),
+        Awaited::Ended => ended(label, t, e),
     }
 }

@@ -1,239 +1,167 @@
-// Ways to go on from a state, and the views of an element that the choice is made by.
-use crate::Mode;
-use crate::Nest;
+// Ways to go on from a state, what is given there, and what an element is met as.
+use crate::Awaited;
+use crate::Gives;
 use crate::State;
 use crate::Stepped;
+use crate::signs::sign_of;
 use elements::Element;
 use rows::Kind;
+use rows::Nest;
 use rows::Op;
 use rows::Row;
-use words::Fixed;
 ghost use mathlib.Core.Path.{_≡_};
-ghost use Prim.Native.Nat.{_-_};
-ghost use Rattle.elements.specs.Next.{placeOf};
-ghost use Rattle.steps.specs.Signs.{signOf, wordCode};
-ghost use Rattle.steps.specs.States.{followingIn, Met, moved, within, halted, unitNext, unitNamed, openingOf};
+ghost use Rattle.steps.specs.States.{followingIn, stateWith, awaiting, named};
+ghost use Rattle.steps.specs.Steps.{Met, filler, nothing, one-row, stop, giving};
 
-fn less_one(a: usize) -> usize
-    ensures { λ r. ⌜ r ≡ a - 1 ⌝ }
+// What the state knows of the open blocks, and the name in hand, stay.
+fn state_with(t: State, awaited: Awaited, nest: Nest, kind: Kind, op: Op) -> State
+    ensures { λ r. ⌜ r ≡ stateWith t awaited nest kind op ⌝ }
 {
-    if a == 0 { 0 } else { a - 1 }
-}
-
-// Where an element begins, its opening quote included.
-fn start_of(e: Element) -> usize
-    ensures { λ r. ⌜ r ≡ placeOf e ⌝ }
-{
-    match e {
-        Element::Name(a, _) => a,
-        Element::The(_, a, _) => a,
-        Element::End(_, a, _) => a,
-        Element::Integer(_, _, a, _) => a,
-        Element::Based(_, _, a, _) => a,
-        Element::Float(_, a, _) => a,
-        Element::Time(_, a, _) => a,
-        Element::Text(a, _) => less_one(a),
-        Element::Symbol(a, _) => less_one(a),
+    let top = t.top;
+    State {
+        awaited,
+        nest,
+        kind,
+        op,
+        top,
+        full: t.full,
+        from: t.from,
+        upto: t.upto,
     }
 }
 
-// A number for each word and sign of one spelling: a sign's is its byte.
-fn word_code(k: Fixed) -> u8
-    ensures { λ r. ⌜ r ≡ wordCode k ⌝ }
-{
-    match k {
-        Fixed::Object => 1,
-        Fixed::EndObject => 2,
-        Fixed::Group => 3,
-        Fixed::EndGroup => 4,
-        Fixed::BeginObject => 5,
-        Fixed::Equals => 61,
-        Fixed::Comma => 44,
-        Fixed::Star => 42,
-        Fixed::Slash => 47,
-        Fixed::Caret => 94,
-        Fixed::Less => 60,
-        Fixed::Greater => 62,
-        Fixed::OpenParen => 40,
-        Fixed::CloseParen => 41,
-        Fixed::OpenBrace => 123,
-        Fixed::CloseBrace => 125,
-        Fixed::Power => 33,
-    }
-}
-
-// That number, 0 for an element of another sort.
-pub fn sign_of(e: Element) -> u8
-    ensures { λ r. ⌜ r ≡ signOf e ⌝ }
-{
-    match e {
-        Element::The(k, _, _) => word_code(k),
-        _ => 0,
-    }
-}
-
-pub fn awaiting(t: State, mode: Mode, row: Row) -> Stepped
-    ensures { λ r. ⌜ r ≡ moved t mode row ⌝ }
+pub fn awaiting(t: State, awaited: Awaited) -> State
+    ensures { λ r. ⌜ r ≡ awaiting t awaited ⌝ }
 {
     let nest = t.nest;
     let kind = t.kind;
     let op = t.op;
-    let top = t.top;
-    Stepped {
-        state: State {
-            mode: mode,
-            nest: nest,
-            kind: kind,
-            op: op,
-            top: top,
-            full: t.full,
-            from: t.from,
-            upto: t.upto,
-        },
-        row: row,
-    }
+    state_with(t, awaited, nest, kind, op)
 }
 
-pub fn awaiting_in(t: State, mode: Mode, nest: Nest, row: Row) -> Stepped
-    ensures { λ r. ⌜ r ≡ within t mode nest row ⌝ }
+pub fn awaiting_in(t: State, awaited: Awaited, nest: Nest) -> State
+    ensures { λ r. ⌜ r ≡ stateWith t awaited nest (t .kind) (t .op) ⌝ }
 {
     let kind = t.kind;
     let op = t.op;
-    let top = t.top;
-    Stepped {
-        state: State {
-            mode: mode,
-            nest: nest,
-            kind: kind,
-            op: op,
-            top: top,
-            full: t.full,
-            from: t.from,
-            upto: t.upto,
-        },
-        row: row,
-    }
+    state_with(t, awaited, nest, kind, op)
 }
 
 // A unit's name is awaited, after this operator.
-pub fn awaiting_unit(t: State, op: Op, row: Row) -> Stepped
-    ensures { λ r. ⌜ r ≡ unitNext t op row ⌝ }
+pub fn awaiting_unit(t: State, op: Op) -> State
+    ensures { λ r. ⌜ r ≡ stateWith t Awaited.UnitName (t .nest) (t .kind) op ⌝ }
 {
     let nest = t.nest;
     let kind = t.kind;
-    let top = t.top;
-    Stepped {
-        state: State {
-            mode: Mode::UnitName,
-            nest: nest,
-            kind: kind,
-            op: op,
-            top: top,
-            full: t.full,
-            from: t.from,
-            upto: t.upto,
-        },
-        row: row,
-    }
+    state_with(t, Awaited::UnitName, nest, kind, op)
 }
 
 // The unit's name is in hand.
-pub fn with_unit(t: State, a: usize, b: usize) -> Stepped
-    ensures { λ r. ⌜ r ≡ unitNamed t a b ⌝ }
+pub fn with_unit(t: State, a: usize, b: usize) -> State
+    ensures { λ r. ⌜ r ≡ named (awaiting t Awaited.AfterUnit) a b ⌝ }
 {
-    let nest = t.nest;
-    let kind = t.kind;
-    let op = t.op;
-    let top = t.top;
-    Stepped {
-        state: State {
-            mode: Mode::AfterUnit,
-            nest: nest,
-            kind: kind,
-            op: op,
-            top: top,
-            full: t.full,
-            from: a,
-            upto: b,
-        },
-        row: Row::Nothing,
-    }
+    let mut state = awaiting(t, Awaited::AfterUnit);
+    state.from = a;
+    state.upto = b;
+    state
 }
 
 // A block is being opened.
-pub fn opening(t: State, kind: Kind) -> Stepped
-    ensures { λ r. ⌜ r ≡ openingOf t kind ⌝ }
+pub fn opening(t: State, kind: Kind) -> State
+    ensures { λ r. ⌜ r ≡ stateWith t Awaited.BlockEquals (t .nest) kind (t .op) ⌝ }
 {
     let nest = t.nest;
     let op = t.op;
-    let top = t.top;
-    Stepped {
-        state: State {
-            mode: Mode::BlockEquals,
-            nest: nest,
-            kind: kind,
-            op: op,
-            top: top,
-            full: t.full,
-            from: t.from,
-            upto: t.upto,
-        },
-        row: Row::Nothing,
-    }
-}
-
-pub fn refuse(t: State, code: u8, e: Element) -> Stepped
-    ensures { λ r. ⌜ r ≡ halted t code e ⌝ }
-{
-    Stepped {
-        state: t,
-        row: Row::Stop(code, start_of(e)),
-    }
+    state_with(t, Awaited::BlockEquals, nest, kind, op)
 }
 
 // What follows a scalar, by what it is a member of.
-pub fn following(nest: Nest) -> Mode
+pub fn following(nest: Nest) -> Awaited
     ensures { λ r. ⌜ r ≡ followingIn nest ⌝ }
 {
     match nest {
-        Nest::Alone => Mode::Statement,
-        Nest::Sequence => Mode::InSequence,
-        Nest::Row => Mode::InRow,
-        Nest::Set => Mode::InSet,
+        Nest::Alone => Awaited::Statement,
+        Nest::Sequence => Awaited::InSequence,
+        Nest::Row => Awaited::InRow,
+        Nest::Set => Awaited::InSet,
     }
 }
 
 // The scalar is done.
-pub fn scalar_done(t: State, row: Row) -> Stepped
-    ensures { λ r. ⌜ r ≡ moved t (followingIn (t .nest)) row ⌝ }
+pub fn scalar_done(t: State) -> State
+    ensures { λ r. ⌜ r ≡ awaiting t (followingIn (t .nest)) ⌝ }
 {
     let nest = t.nest;
-    awaiting(t, following(nest), row)
+    awaiting(t, following(nest))
 }
 
-// The mode that an element is met in: a number need not have a unit, nor the word that closes a block a name, so an element that
-// is not the sign of one is met as what follows without it. With that told here, what follows is a mode like any other and its
-// function has one caller: one with several is kept out of line, and the state then goes through memory at each element.
-pub fn settled(t: State, e: Element) -> Mode
+pub fn giving(state: State, row: Row) -> Stepped
+    ensures { λ r. ⌜ r ≡ giving state (one-row row) ⌝ }
+{
+    Stepped {
+        state,
+        gives: Gives::One,
+        row,
+        code: 0,
+    }
+}
+
+// No row is given: the filler stands beside.
+fn rowless(state: State, gives: Gives, code: u8) -> Stepped
+    ensures { λ r. ⌜ r ≡ record { state = state; gives = gives; row = filler; code = code } ⌝ }
+{
+    Stepped {
+        state,
+        gives,
+        row: Row::Set,
+        code,
+    }
+}
+
+pub fn passing(state: State) -> Stepped
+    ensures { λ r. ⌜ r ≡ giving state nothing ⌝ }
+{
+    rowless(state, Gives::Nothing, 0)
+}
+
+// The codes of refusals that are the step's own.
+pub const MISPLACED: u8 = 6;
+
+pub const OTHER_NAME: u8 = 7;
+
+pub const TOO_DEEP: u8 = 8;
+
+pub const END_NOT_SET_OFF: u8 = 9;
+
+pub fn refuse(t: State, code: u8) -> Stepped
+    ensures { λ r. ⌜ r ≡ giving t (stop code) ⌝ }
+{
+    rowless(t, Gives::Stop, code)
+}
+
+// What an element is met as: a number need not have a unit, nor the word that closes a block a name, so an element that is not the
+// sign of one is met as what follows without it. With that told here, what follows is awaited like anything else and its function
+// has one caller: one with several is kept out of line, and the state then goes through memory at each element.
+pub fn settled(t: State, e: Element) -> Awaited
     ensures { λ m. ⌜ Met t e m ⌝ }
 {
-    let mode = t.mode;
-    match mode {
-        Mode::Closed => {
+    let awaited = t.awaited;
+    match awaited {
+        Awaited::Closed => {
             let c = sign_of(e);
-            if c == 61 {
-                return mode;
+            if c == b'=' {
+                return awaited;
             }
-            Mode::Statement
+            Awaited::Statement
         }
-        Mode::AfterNumber => {
+        Awaited::AfterNumber => {
             let c = sign_of(e);
-            if c == 60 {
-                return mode;
+            if c == b'<' {
+                return awaited;
             }
             let nest = t.nest;
             following(nest)
         }
-        _ => mode,
+        _ => awaited,
     }
 }

@@ -1,17 +1,21 @@
 // Values: what a scalar, a sequence, a row or a set does with the element that comes next.
-use crate::Mode;
-use crate::Nest;
+use crate::Awaited;
 use crate::State;
 use crate::Stepped;
+use crate::moves::MISPLACED;
 use crate::moves::awaiting;
 use crate::moves::awaiting_in;
 use crate::moves::following;
+use crate::moves::giving;
+use crate::moves::passing;
 use crate::moves::refuse;
-use crate::moves::sign_of;
+use crate::signs::sign_of;
 use elements::Element;
+use rows::Nest;
 use rows::Row;
-ghost use Rattle.rules.proofs.Grammar.Machine.{at-scalar, at-row, at-member, no-else, any-value, a-row, a-set-end, in-sequence, in-row, in-set};
-ghost use Rattle.steps.specs.States.{placeIn, Does};
+ghost use Rattle.rules.proofs.Machine.Statements.{at-scalar, at-row, at-member, no-else, any-value, a-row, a-set-end, in-sequence, in-row, in-set};
+ghost use Rattle.rows.specs.Rows.{placeIn};
+ghost use Rattle.steps.specs.Steps.{Does};
 
 // What follows is found once, ahead of the arms.
 pub fn scalar(label: &[u8], t: State, e: Element) -> Stepped
@@ -20,14 +24,17 @@ pub fn scalar(label: &[u8], t: State, e: Element) -> Stepped
     let nest = t.nest;
     let after = following(nest);
     match e {
-        Element::Name(a, b) => awaiting(t, after, Row::Symbol(a, b)),
-        Element::Integer(m, v, _, _) => awaiting(t, Mode::AfterNumber, Row::Integer(m, v)),
-        Element::Based(m, v, _, _) => awaiting(t, Mode::AfterNumber, Row::Integer(m, v)),
-        Element::Float(x, _, _) => awaiting(t, Mode::AfterNumber, Row::Float(x)),
-        Element::Time(x, _, _) => awaiting(t, after, Row::Time(x)),
-        Element::Text(a, b) => awaiting(t, after, Row::Text(a, b)),
-        Element::Symbol(a, b) => awaiting(t, after, Row::Symbol(a, b)),
-        _ => refuse(t, 6, e),
+        Element::Name(a, b) => giving(awaiting(t, after), Row::Symbol(a, b)),
+        Element::Integer(m, v, _, _) => giving(
+            awaiting(t, Awaited::AfterNumber),
+            Row::Integer(m, v),
+        ),
+        Element::Based(m, v, _, _) => giving(awaiting(t, Awaited::AfterNumber), Row::Integer(m, v)),
+        Element::Float(x, _, _) => giving(awaiting(t, Awaited::AfterNumber), Row::Float(x)),
+        Element::Time(x, _, _) => giving(awaiting(t, after), Row::Time(x)),
+        Element::Text(a, b) => giving(awaiting(t, after), Row::Text(a, b)),
+        Element::Symbol(a, b) => giving(awaiting(t, after), Row::Symbol(a, b)),
+        _ => refuse(t, MISPLACED),
     }
 }
 
@@ -35,11 +42,14 @@ pub fn value(label: &[u8], t: State, e: Element) -> Stepped
     ensures { λ r. ⌜ Does (now (label .entry)) t (at-scalar (placeIn (t .nest)) any-value) e r ⌝ }
 {
     let c = sign_of(e);
-    if c == 40 {
-        return awaiting_in(t, Mode::FirstMember, Nest::Sequence, Row::Sequence);
+    if c == b'(' {
+        return giving(
+            awaiting_in(t, Awaited::FirstMember, Nest::Sequence),
+            Row::Sequence,
+        );
     }
-    if c == 123 {
-        return awaiting_in(t, Mode::FirstOfSet, Nest::Set, Row::Set);
+    if c == b'{' {
+        return giving(awaiting_in(t, Awaited::FirstOfSet, Nest::Set), Row::Set);
     }
     scalar(label, t, e)
 }
@@ -48,8 +58,8 @@ pub fn first_member(label: &[u8], t: State, e: Element) -> Stepped
     ensures { λ r. ⌜ Does (now (label .entry)) t (at-scalar (placeIn (t .nest)) a-row) e r ⌝ }
 {
     let c = sign_of(e);
-    if c == 40 {
-        return awaiting_in(t, Mode::Member, Nest::Row, Row::Sequence);
+    if c == b'(' {
+        return giving(awaiting_in(t, Awaited::Member, Nest::Row), Row::Sequence);
     }
     scalar(label, t, e)
 }
@@ -58,8 +68,8 @@ pub fn first_of_set(label: &[u8], t: State, e: Element) -> Stepped
     ensures { λ r. ⌜ Does (now (label .entry)) t (at-scalar (placeIn (t .nest)) a-set-end) e r ⌝ }
 {
     let c = sign_of(e);
-    if c == 125 {
-        return awaiting(t, Mode::Statement, Row::SetEnd);
+    if c == b'}' {
+        return giving(awaiting(t, Awaited::Statement), Row::SetEnd);
     }
     scalar(label, t, e)
 }
@@ -68,50 +78,50 @@ pub fn after_row(label: &[u8], t: State, e: Element) -> Stepped
     ensures { λ r. ⌜ Does (now (label .entry)) t at-row e r ⌝ }
 {
     let c = sign_of(e);
-    if c == 40 {
-        return awaiting_in(t, Mode::Member, Nest::Row, Row::Sequence);
+    if c == b'(' {
+        return giving(awaiting_in(t, Awaited::Member, Nest::Row), Row::Sequence);
     }
-    if c == 41 {
-        return awaiting(t, Mode::Statement, Row::SequenceEnd);
+    if c == b')' {
+        return giving(awaiting(t, Awaited::Statement), Row::SequenceEnd);
     }
-    refuse(t, 6, e)
+    refuse(t, MISPLACED)
 }
 
 pub fn in_sequence(label: &[u8], t: State, e: Element) -> Stepped
     ensures { λ r. ⌜ Does (now (label .entry)) t (at-member in-sequence) e r ⌝ }
 {
     let c = sign_of(e);
-    if c == 44 {
-        return awaiting_in(t, Mode::Member, Nest::Sequence, Row::Nothing);
+    if c == b',' {
+        return passing(awaiting_in(t, Awaited::Member, Nest::Sequence));
     }
-    if c == 41 {
-        return awaiting(t, Mode::Statement, Row::SequenceEnd);
+    if c == b')' {
+        return giving(awaiting(t, Awaited::Statement), Row::SequenceEnd);
     }
-    refuse(t, 6, e)
+    refuse(t, MISPLACED)
 }
 
 pub fn in_row(label: &[u8], t: State, e: Element) -> Stepped
     ensures { λ r. ⌜ Does (now (label .entry)) t (at-member in-row) e r ⌝ }
 {
     let c = sign_of(e);
-    if c == 44 {
-        return awaiting_in(t, Mode::Member, Nest::Row, Row::Nothing);
+    if c == b',' {
+        return passing(awaiting_in(t, Awaited::Member, Nest::Row));
     }
-    if c == 41 {
-        return awaiting(t, Mode::AfterRow, Row::SequenceEnd);
+    if c == b')' {
+        return giving(awaiting(t, Awaited::AfterRow), Row::SequenceEnd);
     }
-    refuse(t, 6, e)
+    refuse(t, MISPLACED)
 }
 
 pub fn in_set(label: &[u8], t: State, e: Element) -> Stepped
     ensures { λ r. ⌜ Does (now (label .entry)) t (at-member in-set) e r ⌝ }
 {
     let c = sign_of(e);
-    if c == 44 {
-        return awaiting_in(t, Mode::Member, Nest::Set, Row::Nothing);
+    if c == b',' {
+        return passing(awaiting_in(t, Awaited::Member, Nest::Set));
     }
-    if c == 125 {
-        return awaiting(t, Mode::Statement, Row::SetEnd);
+    if c == b'}' {
+        return giving(awaiting(t, Awaited::Statement), Row::SetEnd);
     }
-    refuse(t, 6, e)
+    refuse(t, MISPLACED)
 }

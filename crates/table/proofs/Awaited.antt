@@ -11,22 +11,19 @@ use lib.Dec.{eqb, leb}
 use lib.ListN.{length}
 use Rattle.rules.specs.Data as rule
 use Rattle.rules.proofs.Tables.Tests.{and-left, and-right}
-use Rattle.rules.proofs.Tables.RowMachine.{Sort, s-attribute, s-pointer, s-opened, s-closed, s-number, s-other, s-unit-first, s-unit-more, s-sequence, s-sequence-end, s-set, s-set-end, s-last, t-statement, Kinds, to-none, to, chosen, look, after-lines, sort-step}
-use Rattle.rows.specs.Rows.{rowsOf}
+use Rattle.rules.proofs.Machine.Rows.{Sort, s-attribute, s-pointer, s-opened, s-closed, s-number, s-other, s-unit-first, s-unit-more, s-sequence, s-sequence-end, s-set, s-set-end, s-last, sort, t-statement, Kinds, to-none, to, look, after-lines, sort-step}
+use Rattle.rules.proofs.Machine.Statements.{chosen}
+use Rattle.rows.specs.Rows.{placeIn, rowOf, deepest}
 use Rattle.rows.specs.declared.Kind.the-variants as kinds
-use Rattle.rows.specs.declared.Kind.{Kind}
-use Rattle.rows.specs.declared.Op.{Op}
-use Rattle.rows.specs.declared.Op.the-variants as ops
 use Rattle.rows.specs.declared.Row.{Row}
-use Rattle.rows.specs.declared.Row.the-variants.{Open, Close, Unit}
 use Rattle.blocks.specs.Stack.{Block, block, blocksOf, rest, many, topOf, pushOn, popOff}
 use Rattle.blocks.specs.declared.Blocks.{Blocks}
 use Rattle.blocks.specs.declared.Top as top
 use Rattle.blocks.specs.declared.Top.the-variants as tops
 use Rattle.blocks.proofs.Opened.{counted}
-use Rattle.table.specs.Ordering.{openCode, closeCode, unitCode, sortCode, rowCode, placeIn, awaitOf, isNone, isEnd, kindsIn, kindsOf, less, Nesting, openedTo, closingTo, afterTo, nextOf, toOf}
-use Rattle.table.specs.declared.Nest as nest
-use Rattle.table.specs.declared.Nest.the-variants as nests
+use Rattle.table.specs.Ordering.{sortCode, awaitOf, isNone, isEnd, kindsIn, kindsOf, less, Nesting, openedTo, closingTo, afterTo, nextOf, toOf}
+use Rattle.rows.specs.declared.Nest as nest
+use Rattle.rows.specs.declared.Nest.the-variants as nests
 use Rattle.table.specs.declared.Await.{Await}
 use Rattle.table.specs.declared.Await.the-variants.{Nothing, After, Number, Units, Value, First, SetFirst, InRow, Rows, End}
 
@@ -62,48 +59,35 @@ none-is h e = rw h e
 pub end-is : {t v : Await} {b : Bool} → t ≡ v → b ≡ isEnd v → b ≡ isEnd t
 end-is h e = rw h e
 
-pub code-is : {row w : Row} {n : ℕ} → row ≡ w → n ≡ rowCode (rowsOf w) → n ≡ rowCode (rowsOf row)
-code-is h e = rw h e
-
-pub open-code-is : {row : Row} {k : Kind} {a b n : ℕ} → row ≡ Open k a b → n ≡ openCode k → n ≡ rowCode (rowsOf row)
-open-code-is {k = kinds.Object} h e = rw h e
-open-code-is {k = kinds.Group} h e = rw h e
-
-pub close-code-is : {row : Row} {k : Kind} {n : ℕ} → row ≡ Close k → n ≡ closeCode k → n ≡ rowCode (rowsOf row)
-close-code-is {k = kinds.Object} h e = rw h e
-close-code-is {k = kinds.Group} h e = rw h e
-
-pub unit-code-is : {row : Row} {o : Op} {a b v n : ℕ} {m : Bool} → row ≡ Unit o a b m v → n ≡ unitCode o → n ≡ rowCode (rowsOf row)
-unit-code-is {o = ops.First} h e = rw h e
-unit-code-is {o = ops.Times} h e = rw h e
-unit-code-is {o = ops.Divided} h e = rw h e
+pub sort-is : {row w : Row} {n : ℕ} → row ≡ w → n ≡ sortCode (sort (rowOf w)) → n ≡ sortCode (sort (rowOf row))
+sort-is h e = rw h e
 
 -- ---- the blocks after a row
 
-pub roomy : (n j d : ℕ) → n ≡ j → (n ≡ j → d < 80) → d < 80
+pub roomy : (n j d : ℕ) → n ≡ j → (n ≡ j → d < deepest) → d < deepest
 roomy n j d h f = f h
 
 module _ (n : ℕ) (b r : Blocks) where
-  pub opens-object : n ≡ 3 → blocksOf r ≡ block kinds.Object 0 0 ∷ blocksOf b → r .depth ≡ b .depth + 1 → r ≡ pushOn b kinds.Object 0 0 → (n ≡ 3 → b .depth < 80) → Nesting n b r
+  pub opens-object : n ≡ 3 → blocksOf r ≡ block kinds.Object 0 0 ∷ blocksOf b → r .depth ≡ b .depth + 1 → r ≡ pushOn b kinds.Object 0 0 → (n ≡ 3 → b .depth < deepest) → Nesting n b r
   opens-object h e d o l = record { on = rw h o; is = rw (h, e); within = let z = l h in omega arith }
 
-  pub opens-group : n ≡ 5 → blocksOf r ≡ block kinds.Group 0 0 ∷ blocksOf b → r .depth ≡ b .depth + 1 → r ≡ pushOn b kinds.Group 0 0 → (n ≡ 5 → b .depth < 80) → Nesting n b r
+  pub opens-group : n ≡ 5 → blocksOf r ≡ block kinds.Group 0 0 ∷ blocksOf b → r .depth ≡ b .depth + 1 → r ≡ pushOn b kinds.Group 0 0 → (n ≡ 5 → b .depth < deepest) → Nesting n b r
   opens-group h e d o l = record { on = rw h o; is = rw (h, e); within = let z = l h in omega arith }
 
   fewer : (bs : List Block) → kindsIn (rest bs) ≡ less (kindsIn bs)
   fewer [] = refl
   fewer (block k x y ∷ bs) = refl
 
-  pub closes-object : n ≡ 4 → blocksOf r ≡ rest (blocksOf b) → r .depth ≤ b .depth → r ≡ popOff b → b .depth ≤ 80 → Nesting n b r
+  pub closes-object : n ≡ 4 → blocksOf r ≡ rest (blocksOf b) → r .depth ≤ b .depth → r ≡ popOff b → b .depth ≤ deepest → Nesting n b r
   closes-object h e d o l = record { on = rw h o; is = ap kindsIn e ∙ rw h (fewer (blocksOf b)); within = omega arith }
 
-  pub closes-group : n ≡ 6 → blocksOf r ≡ rest (blocksOf b) → r .depth ≤ b .depth → r ≡ popOff b → b .depth ≤ 80 → Nesting n b r
+  pub closes-group : n ≡ 6 → blocksOf r ≡ rest (blocksOf b) → r .depth ≤ b .depth → r ≡ popOff b → b .depth ≤ deepest → Nesting n b r
   closes-group h e d o l = record { on = rw h o; is = ap kindsIn e ∙ rw h (fewer (blocksOf b)); within = omega arith }
 
-pub opens-none : (n : ℕ) (b : Blocks) → (n ≡ 3 → ⊥) → (n ≡ 5 → ⊥) → (n ≡ 4 → ⊥) → (n ≡ 6 → ⊥) → b .depth ≤ 80 → Nesting n b b
+pub opens-none : (n : ℕ) (b : Blocks) → (n ≡ 3 → ⊥) → (n ≡ 5 → ⊥) → (n ≡ 4 → ⊥) → (n ≡ 6 → ⊥) → b .depth ≤ deepest → Nesting n b b
 opens-none n b h i j k l = record { on = rw (ne-eqb n 3 h, ne-eqb n 5 i, ne-eqb n 4 j, ne-eqb n 6 k); is = rw (ne-eqb n 3 h, ne-eqb n 5 i, ne-eqb n 4 j, ne-eqb n 6 k); within = l }
 
-pub ruleset order = (taken, passed, taken-as, no-room, room, closing-is, after-is, next-is, none-is, end-is, code-is, open-code-is, close-code-is, unit-code-is, roomy, opens-object, opens-group, closes-object, closes-group, opens-none, needs)
+pub ruleset order = (taken, passed, taken-as, no-room, room, closing-is, after-is, next-is, none-is, end-is, sort-is, roomy, opens-object, opens-group, closes-object, closes-group, opens-none, needs)
 
 -- ---- the machine
 
@@ -131,15 +115,15 @@ topFor (rule.object ∷ o) = tops.Object
 topFor (rule.group ∷ o) = tops.Group
 
 abbrev full : Kinds → Bool
-full o = leb 80 (length o)
+full o = leb deepest (length o)
 
--- a block opens where fewer than 80 are open
-opening : (n : ℕ) (o : Kinds) → chosen (decLt n 80) (to t-statement o) to-none ≡ cond (isNone (openedTo (leb 80 n))) to-none (to (awaitOf (openedTo (leb 80 n))) o)
-opening n o = go (decLt n 80)
+-- a block opens where there is room for it
+opening : (n : ℕ) (o : Kinds) → chosen (decLt n deepest) (to t-statement o) to-none ≡ cond (isNone (openedTo (leb deepest n))) to-none (to (awaitOf (openedTo (leb deepest n))) o)
+opening n o = go (decLt n deepest)
   where
-    go : (d : Dec (n < 80)) → chosen d (to t-statement o) to-none ≡ cond (isNone (openedTo (leb 80 n))) to-none (to (awaitOf (openedTo (leb 80 n))) o)
-    go (yes h) = rw (lt-leb 80 n h)
-    go (no h) = rw (le-leb 80 n (omega (arith, h)))
+    go : (d : Dec (n < deepest)) → chosen d (to t-statement o) to-none ≡ cond (isNone (openedTo (leb deepest n))) to-none (to (awaitOf (openedTo (leb deepest n))) o)
+    go (yes h) = rw (lt-leb deepest n h)
+    go (no h) = rw (le-leb deepest n (omega (arith, h)))
 
 abbrev After-law : nest.Nest → Kinds → Sort → Type 0
 After-law c o s = look (after-lines (placeIn c) o) s ≡ toOf o (sortCode s) (afterTo (sortCode s) c (topFor o) (full o))
@@ -192,14 +176,14 @@ many-kinds (block k a b ∷ bs) = ap suc (many-kinds bs)
 pub depth-kinds : (b : Blocks) → length (kindsOf b) ≡ b .depth
 depth-kinds b = many-kinds (blocksOf b) ∙ counted (b .starts) (b .ends) (b .kinds) (b .depth)
 
-pub step-law : (t : Await) (b : Blocks) (s : Sort) (n : ℕ) (x : top.Top) (f : Bool) → n ≡ sortCode s → x ≡ topOf (blocksOf b) → f ≡ leb 80 (b .depth) →
+pub step-law : (t : Await) (b : Blocks) (s : Sort) (n : ℕ) (x : top.Top) (f : Bool) → n ≡ sortCode s → x ≡ topOf (blocksOf b) → f ≡ leb deepest (b .depth) →
     sort-step (awaitOf t) (kindsOf b) s ≡ toOf (kindsOf b) n (nextOf t n x f)
 step-law t b s n x f e g h =
     let p : topFor (kindsOf b) ≡ x = sym (g ∙ top-kinds (blocksOf b)) in
-    let q : full (kindsOf b) ≡ f = ap (λ (i : ℕ). leb 80 i) (depth-kinds b) ∙ sym h in
+    let q : full (kindsOf b) ≡ f = ap (λ (i : ℕ). leb deepest i) (depth-kinds b) ∙ sym h in
     law t (kindsOf b) s ∙ ap₂ (λ (y : top.Top) (g : Bool). toOf (kindsOf b) (sortCode s) (nextOf t (sortCode s) y g)) p q ∙ ap (λ (i : ℕ). toOf (kindsOf b) i (nextOf t i x f)) (sym e)
 
--- where 80 blocks are open no block opens
+-- where there is no room no block opens
 after-blocked : (c : nest.Nest) (x : top.Top) → (isNone (afterTo 3 c x true) && isNone (afterTo 5 c x true)) ≡ true
 after-blocked nests.Alone x = refl
 after-blocked nests.Sequence x = refl
@@ -218,16 +202,16 @@ blocked InRow x = refl
 blocked Rows x = refl
 blocked End x = refl
 
-module _ (t : Await) (x : top.Top) (n d : ℕ) (f : Bool) (g : f ≡ leb 80 d) where
-  open-where : (f ≡ true → isNone (nextOf t n x true) ≡ true) → isNone (nextOf t n x f) ≡ false → d < 80
-  open-where k h = go (leb 80 d) refl
+module _ (t : Await) (x : top.Top) (n d : ℕ) (f : Bool) (g : f ≡ leb deepest d) where
+  open-where : (f ≡ true → isNone (nextOf t n x true) ≡ true) → isNone (nextOf t n x f) ≡ false → d < deepest
+  open-where k h = go (leb deepest d) refl
     where
-      go : (b : Bool) → leb 80 d ≡ b → d < 80
+      go : (b : Bool) → leb deepest d ≡ b → d < deepest
       go true e = absurd (true≢false (sym (k (g ∙ e)) ∙ ap (λ (y : Bool). isNone (nextOf t n x y)) (sym (g ∙ e)) ∙ h))
-      go false e = leb-false 80 d e
+      go false e = leb-false deepest d e
 
-  pub object-room : isNone (nextOf t n x f) ≡ false → n ≡ 3 → d < 80
+  pub object-room : isNone (nextOf t n x f) ≡ false → n ≡ 3 → d < deepest
   object-room h e = open-where (λ _. ap (λ (i : ℕ). isNone (nextOf t i x true)) e ∙ and-left _ (isNone (nextOf t 5 x true)) (blocked t x)) h
 
-  pub group-room : isNone (nextOf t n x f) ≡ false → n ≡ 5 → d < 80
+  pub group-room : isNone (nextOf t n x f) ≡ false → n ≡ 5 → d < deepest
   group-room h e = open-where (λ _. ap (λ (i : ℕ). isNone (nextOf t i x true)) e ∙ and-right (isNone (nextOf t 3 x true)) _ (blocked t x)) h

@@ -1,70 +1,18 @@
--- The tests of spans: names by what a word means, texts and symbols byte by byte.
+-- The tests of spans: inside the label, and texts and symbols byte by byte.
 use Prim.Native.Nat.{ℕ, _+_, _≤_, _<_}
-use mathlib.Core.Bool.{Bool, true, false, not, _&&_, true≢false, false≢true}
+use mathlib.Core.Bool.{Bool, true, false, not, _&&_}
 use mathlib.Core.Path.{_≡_, refl, sym, ap, _∙_}
 use mathlib.Core.List.{List}
 use borrow.Author.Needs.{needs}
 use borrow.Author.Tests.{le-leb, lt-leb, not-true, not-false}
 use lib.Dec.{leb}
 use lib.ListN.{length, getD, drop, drop-of-length-le}
-use Rattle.rules.specs.Data.{Elem, name, the, end, integer, based, real, moment, range, text, symbol}
-use Rattle.rules.specs.Modes.{base}
 use Rattle.rules.specs.Values.{each}
-use Rattle.rules.specs.Words.{Form}
-use Rattle.rules.specs.Written.{isName}
-use Rattle.rules.proofs.Elements.Pieces.{Verdict, is, over, formless, Classified, classify, classified, form-once, past-once, formless-once}
 use Rattle.rules.proofs.Tables.Tests.{and-false}
-use Rattle.rules.proofs.Tables.Contents.{aName, textByte, symbolByte, isText, isSymbol, name-word, form-name}
-use Rattle.rules.proofs.Tables.Checks.{spanTest}
+use Rattle.rules.proofs.Machine.Checks.{textByte, symbolByte, isText, isSymbol, spanTest}
 use Rattle.classes.proofs.Runs.{unroll}
-use Rattle.words.specs.Says.{said, Means}
-use Rattle.words.specs.declared.Value.{Value}
-use Rattle.rows.specs.Rows.{rowsOf}
+use Rattle.rows.specs.Rows.{rowOf}
 use Rattle.rows.specs.declared.Row.{Row}
-use Rattle.table.specs.Decoding.{passes}
-
--- ---- names
-
-abbrev saysName : Verdict → Bool
-saysName (is e) = aName e
-saysName over = false
-saysName formless = false
-
-once : (w : List ℕ) (v : Verdict) → Classified base true w v → classify base true w ≡ v
-once w (is e) f = form-once f
-once w over f = past-once f
-once w formless f = formless-once true f
-
-name-elem : (w : List ℕ) (e : Elem) → aName e ≡ true → Form base true w e → isName w ≡ true
-name-elem w (name n) h f = form-name base true w f
-name-elem w (the x) h f = absurd (false≢true h)
-name-elem w (end x) h f = absurd (false≢true h)
-name-elem w (integer x) h f = absurd (false≢true h)
-name-elem w (based x) h f = absurd (false≢true h)
-name-elem w (real x) h f = absurd (false≢true h)
-name-elem w (moment x) h f = absurd (false≢true h)
-name-elem w (range x y) h f = absurd (false≢true h)
-name-elem w text h f = absurd (false≢true h)
-name-elem w symbol h f = absurd (false≢true h)
-
-says : (w : List ℕ) → isName w ≡ saysName (classify base true w)
-says w = go (isName w) refl
-  where
-    found : (v : Verdict) → Classified base true w v → saysName v ≡ true → isName w ≡ true
-    found (is e) f h = name-elem w e h f
-    found over f h = absurd (false≢true h)
-    found formless f h = absurd (false≢true h)
-
-    other : isName w ≡ false → (b : Bool) → saysName (classify base true w) ≡ b → false ≡ saysName (classify base true w)
-    other h true e = absurd (true≢false (sym (found (classify base true w) (classified base true w) e) ∙ h))
-    other h false e = sym e
-
-    go : (b : Bool) → isName w ≡ b → b ≡ saysName (classify base true w)
-    go true h = sym (ap saysName (form-once (name-word true w h)))
-    go false h = other h (saysName (classify base true w)) refl
-
-pub name-is : (w : List ℕ) (r : Value) {v : Value} {t : Bool} → Means w r → r ≡ v → t ≡ saysName (said w true v) → t ≡ isName w
-name-is w r {v} m e h = h ∙ ap (λ (x : Value). saysName (said w true x)) (sym e) ∙ sym (says w ∙ ap saysName (once w (said w true r) (m .means true)))
 
 -- ---- a test of each byte
 
@@ -129,7 +77,7 @@ inside-fails a b n x h = rw (lt-leb b n h) (sym (and-false (leb a b)))
 pub holds : (a b n : ℕ) (t x : Bool) → a ≤ b → b ≤ n → t ≡ x → t ≡ (leb a b && (leb b n && x))
 holds a b n t x h l e = rw (le-leb a b h, le-leb b n l) e
 
-pub span-is : (given : List ℕ) {row w : Row} {t : Bool} → row ≡ w → t ≡ passes (spanTest given) (rowsOf w) → t ≡ passes (spanTest given) (rowsOf row)
+pub span-is : (given : List ℕ) {row w : Row} {t : Bool} → row ≡ w → t ≡ spanTest given (rowOf w) → t ≡ spanTest given (rowOf row)
 span-is given h e = rw h e
 
-pub ruleset spans = (name-is, text-start, text-turn, text-fails, text-ends, symbol-start, symbol-turn, symbol-fails, symbol-ends, symbol-is, order-fails, inside-fails, holds, span-is, needs)
+pub ruleset spans = (text-start, text-turn, text-fails, text-ends, symbol-start, symbol-turn, symbol-fails, symbol-ends, symbol-is, order-fails, inside-fails, holds, span-is, needs)

@@ -1,6 +1,4 @@
 -- What the proofs of this crate share.
-pub mod Octets
-pub mod RowsRead
 pub mod Worths
 pub mod Held
 pub mod Awaited

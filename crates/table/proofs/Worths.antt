@@ -5,13 +5,12 @@ use mathlib.Core.Path.{_≡_, ap}
 use borrow.Author.Needs.{needs}
 use lib.Dec.{ltb, leb, eqb}
 use Rattle.rules.specs.Values.{monthLength}
-use Rattle.rules.proofs.Tables.Checks.{withinTest, realTest, datedTest, timedTest, undatedTest, untimedTest, momentTest, valueTest}
+use Rattle.rules.proofs.Machine.Checks.{withinTest, realTest, datedTest, timedTest, undatedTest, untimedTest, momentTest, valueTest}
 use Rattle.words.specs.Says.{whole, realOf, momentOf}
 use Rattle.words.specs.declared.Real.{Real}
 use Rattle.words.specs.declared.Moment.{Moment}
-use Rattle.rows.specs.Rows.{rowsOf}
+use Rattle.rows.specs.Rows.{rowOf}
 use Rattle.rows.specs.declared.Row.{Row}
-use Rattle.table.specs.Decoding.{passes}
 
 -- ---- values
 
@@ -31,7 +30,7 @@ pub moment-is : (x : Moment) (d u t n : Bool) → d ≡ datedTest (momentOf x) �
     ((eqb (x .parts) 1 && (d && n)) || ((eqb (x .parts) 2 && (u && t)) || (eqb (x .parts) 3 && (d && t)))) ≡ momentTest (momentOf x)
 moment-is x d u t n e f g h = rw (e, f, g, h)
 
-pub value-is : {row w : Row} {t : Bool} → row ≡ w → t ≡ passes valueTest (rowsOf w) → t ≡ passes valueTest (rowsOf row)
+pub value-is : {row w : Row} {t : Bool} → row ≡ w → t ≡ valueTest (rowOf w) → t ≡ valueTest (rowOf row)
 value-is h e = rw h e
 
 pub ruleset values = (real-is, dated-is, timed-is, moment-is, value-is, needs)

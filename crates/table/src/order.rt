@@ -1,68 +1,69 @@
 // The order of rows: what may come next, by the sort of a row and by what is known of the open blocks.
 use crate::Await;
-use crate::Nest;
 use blocks::Blocks;
 use blocks::Top;
 use blocks::pop;
 use blocks::push;
+use rows::ATTRIBUTE;
+use rows::CLOSE_GROUP;
+use rows::CLOSE_OBJECT;
+use rows::INTEGER;
 use rows::Kind;
+use rows::LAST;
+use rows::Nest;
+use rows::OPEN_GROUP;
+use rows::OPEN_OBJECT;
 use rows::Op;
+use rows::POINTER;
 use rows::Row;
+use rows::SEQUENCE;
+use rows::SEQUENCE_END;
+use rows::SET;
+use rows::SET_END;
+use rows::TEXT;
+use rows::UNIT;
+use rows::close_kind;
+use rows::open_kind;
 ghost use mathlib.Core.Path.{_≡_};
 ghost use Prim.Native.Nat.{_<_, _≤_};
-ghost use Rattle.rows.specs.Rows.{rowsOf};
-ghost use Rattle.table.specs.Ordering.{unitCode, openCode, closeCode, rowCode, openedTo, closingTo, statementTo, scalarTo, memberTo, afterTo, valueTo, sequencesTo, nextOf, isNone, isEnd, Nesting};
+ghost use Rattle.rules.proofs.Machine.Rows.{unit-sort, sort};
+ghost use Rattle.rows.specs.Rows.{opOf, rowOf, deepest};
+ghost use Rattle.table.specs.Ordering.{sortCode, openedTo, closingTo, statementTo, scalarTo, memberTo, afterTo, valueTo, sequencesTo, nextOf, isNone, isEnd, Nesting};
+
+// The sort of a unit that is not the first: no row has this kind.
+const FURTHER_UNIT: u8 = 16;
 
 fn unit_sort(op: Op) -> u8
-    ensures { λ r. ⌜ r ≡ unitCode op ⌝ }
+    ensures { λ r. ⌜ r ≡ sortCode (unit-sort (opOf op)) ⌝ }
 {
     match op {
-        Op::First => 15,
-        Op::Times => 16,
-        Op::Divided => 16,
+        Op::First => UNIT,
+        Op::Times => FURTHER_UNIT,
+        Op::Divided => FURTHER_UNIT,
     }
 }
 
-fn open_sort(k: Kind) -> u8
-    ensures { λ r. ⌜ r ≡ openCode k ⌝ }
-{
-    match k {
-        Kind::Object => 3,
-        Kind::Group => 5,
-    }
-}
-
-fn close_sort(k: Kind) -> u8
-    ensures { λ r. ⌜ r ≡ closeCode k ⌝ }
-{
-    match k {
-        Kind::Object => 4,
-        Kind::Group => 6,
-    }
-}
-
-// The sort of a row: its kind, but one number for all numbers, 10, one for all other scalars, 13, and 16 for a unit that is not the first.
+// The sort of a row: its kind, but that of an integer for all numbers, that of a text for all other scalars, and one of its own for a unit
+// that is not the first.
 pub fn sort_of(row: Row) -> u8
-    ensures { λ r. ⌜ r ≡ rowCode (rowsOf row) ⌝ }
+    ensures { λ r. ⌜ r ≡ sortCode (sort (rowOf row)) ⌝ }
 {
     match row {
-        Row::Nothing => 0,
-        Row::Attribute(_, _) => 1,
-        Row::Pointer(_, _) => 2,
-        Row::Open(k, _, _) => open_sort(k),
-        Row::Close(k) => close_sort(k),
-        Row::Integer(_, _) => 10,
-        Row::Float(_) => 10,
-        Row::Time(_) => 13,
-        Row::Text(_, _) => 13,
-        Row::Symbol(_, _) => 13,
+        Row::Attribute(_, _) => ATTRIBUTE,
+        Row::Pointer(_, _) => POINTER,
+        Row::Open(k, _, _) => open_kind(k),
+        Row::Close(k) => close_kind(k),
+        Row::Integer(_, _) => INTEGER,
+        Row::Float(_) => INTEGER,
+        Row::Time(_) => TEXT,
+        Row::Text(_, _) => TEXT,
+        Row::Symbol(_, _) => TEXT,
         Row::Unit(op, _, _, _, _) => unit_sort(op),
-        Row::Sequence => 20,
-        Row::SequenceEnd => 21,
-        Row::Set => 22,
-        Row::SetEnd => 23,
-        Row::Last(_) => 99,
-        Row::Stop(_, _) => 0,
+        Row::Sequence => SEQUENCE,
+        Row::SequenceEnd => SEQUENCE_END,
+        Row::Set => SET,
+        Row::SetEnd => SET_END,
+        Row::Last(_) => LAST,
     }
 }
 
@@ -81,19 +82,19 @@ fn closing(n: u8, top: Top) -> Await
 {
     match top {
         Top::Outside => {
-            if n == 99 {
+            if n == LAST {
                 return Await::End;
             }
             Await::Nothing
         }
         Top::Object => {
-            if n == 4 {
+            if n == CLOSE_OBJECT {
                 return Await::After(Nest::Alone);
             }
             Await::Nothing
         }
         Top::Group => {
-            if n == 6 {
+            if n == CLOSE_GROUP {
                 return Await::After(Nest::Alone);
             }
             Await::Nothing
@@ -104,16 +105,16 @@ fn closing(n: u8, top: Top) -> Await
 fn statement(n: u8, top: Top, full: bool) -> Await
     ensures { λ r. ⌜ r ≡ statementTo n top full ⌝ }
 {
-    if n == 1 {
+    if n == ATTRIBUTE {
         return Await::Value;
     }
-    if n == 2 {
+    if n == POINTER {
         return Await::Value;
     }
-    if n == 3 {
+    if n == OPEN_OBJECT {
         return opened(full);
     }
-    if n == 5 {
+    if n == OPEN_GROUP {
         return opened(full);
     }
     closing(n, top)
@@ -122,10 +123,10 @@ fn statement(n: u8, top: Top, full: bool) -> Await
 fn scalar(n: u8, c: Nest) -> Await
     ensures { λ r. ⌜ r ≡ scalarTo n c ⌝ }
 {
-    if n == 10 {
+    if n == INTEGER {
         return Await::Number(c);
     }
-    if n == 13 {
+    if n == TEXT {
         return Await::After(c);
     }
     Await::Nothing
@@ -147,19 +148,19 @@ fn after(n: u8, c: Nest, top: Top, full: bool) -> Await
 {
     match c {
         Nest::Alone => statement(n, top, full),
-        Nest::Sequence => member(n, Nest::Sequence, 21, Await::After(Nest::Alone)),
-        Nest::Row => member(n, Nest::Row, 21, Await::Rows),
-        Nest::Set => member(n, Nest::Set, 23, Await::After(Nest::Alone)),
+        Nest::Sequence => member(n, Nest::Sequence, SEQUENCE_END, Await::After(Nest::Alone)),
+        Nest::Row => member(n, Nest::Row, SEQUENCE_END, Await::Rows),
+        Nest::Set => member(n, Nest::Set, SET_END, Await::After(Nest::Alone)),
     }
 }
 
 fn value(n: u8) -> Await
     ensures { λ r. ⌜ r ≡ valueTo n ⌝ }
 {
-    if n == 20 {
+    if n == SEQUENCE {
         return Await::First;
     }
-    if n == 22 {
+    if n == SET {
         return Await::SetFirst;
     }
     scalar(n, Nest::Alone)
@@ -169,10 +170,10 @@ fn value(n: u8) -> Await
 fn sequences(n: u8) -> Await
     ensures { λ r. ⌜ r ≡ sequencesTo n ⌝ }
 {
-    if n == 20 {
+    if n == SEQUENCE {
         return Await::InRow;
     }
-    if n == 21 {
+    if n == SEQUENCE_END {
         return Await::After(Nest::Alone);
     }
     Await::Nothing
@@ -186,20 +187,20 @@ pub fn next(t: Await, n: u8, top: Top, full: bool) -> Await
         Await::Nothing => Await::Nothing,
         Await::After(c) => after(n, c, top, full),
         Await::Number(c) => {
-            if n == 15 {
+            if n == UNIT {
                 return Await::Units(c);
             }
             after(n, c, top, full)
         }
         Await::Units(c) => {
-            if n == 16 {
+            if n == FURTHER_UNIT {
                 return Await::Units(c);
             }
             after(n, c, top, full)
         }
         Await::Value => value(n),
-        Await::First => member(n, Nest::Sequence, 20, Await::InRow),
-        Await::SetFirst => member(n, Nest::Set, 23, Await::After(Nest::Alone)),
+        Await::First => member(n, Nest::Sequence, SEQUENCE, Await::InRow),
+        Await::SetFirst => member(n, Nest::Set, SET_END, Await::After(Nest::Alone)),
         Await::InRow => scalar(n, Nest::Row),
         Await::Rows => sequences(n),
         Await::End => Await::Nothing,
@@ -242,19 +243,19 @@ pub fn is_end(t: Await) -> bool
 
 // The open blocks after a row of sort n. Their kinds alone matter to the order, so no name's place is kept.
 pub fn nested(b: Blocks, n: u8) -> Blocks
-    requires { ⌜ (n ≡ 3 → b .depth < 80) × (n ≡ 5 → b .depth < 80) × (b .depth ≤ 80) ⌝ }
+    requires { ⌜ (n ≡ 3 → b .depth < deepest) × (n ≡ 5 → b .depth < deepest) × (b .depth ≤ deepest) ⌝ }
     ensures { λ r. ⌜ Nesting n b r ⌝ }
 {
-    if n == 3 {
+    if n == OPEN_OBJECT {
         return push(b, Kind::Object, 0, 0);
     }
-    if n == 5 {
+    if n == OPEN_GROUP {
         return push(b, Kind::Group, 0, 0);
     }
-    if n == 4 {
+    if n == CLOSE_OBJECT {
         return pop(b);
     }
-    if n == 6 {
+    if n == CLOSE_GROUP {
         return pop(b);
     }
     b

@@ -2,34 +2,18 @@
 use classes::in_symbol;
 use classes::in_text;
 use rows::Row;
-use words::Value;
-use words::word;
+use words::is_name;
 ghost use mathlib.Core.Path.{_≡_};
 ghost use Prim.Native.Nat.{_≤_};
 ghost use lib.ListN.{length};
 ghost use Rattle.rules.specs.Values.{each};
 ghost use Rattle.rules.specs.Written.{isName};
-ghost use Rattle.rules.proofs.Tables.Contents.{isText, symbolByte, isSymbol};
-ghost use Rattle.rules.proofs.Tables.Checks.{heldTest, spanTest};
-ghost use Rattle.rows.specs.Rows.{span, rowsOf};
-ghost use Rattle.table.specs.Decoding.{passes};
+ghost use Rattle.rules.specs.Reading.{longest};
+ghost use Rattle.rules.proofs.Machine.Checks.{isText, symbolByte, isSymbol, heldTest, spanTest};
+ghost use Rattle.classes.specs.Places.{asSpan};
+ghost use Rattle.rows.specs.Rows.{rowOf};
 
-fn name_word(w: &[u8]) -> bool
-    requires { ⌜ length (now w) ≤ 65535 ⌝ }
-    ensures { λ r. ⌜ r ≡ isName (now (w .entry)) ⌝ }
-{
-    match word(w) {
-        Value::Name => true,
-        Value::End => false,
-        Value::The(_) => false,
-        Value::Integer(_, _) => false,
-        Value::Based(_, _) => false,
-        Value::Float(_) => false,
-        Value::Time(_) => false,
-        Value::Past => false,
-        Value::NoForm => false,
-    }
-}
+const LONGEST_SYMBOL: usize = 255;
 
 fn text_body(w: &[u8]) -> bool
     ensures { λ r. ⌜ r ≡ isText (now (w .entry)) ⌝ }
@@ -62,12 +46,12 @@ fn symbol_body(w: &[u8]) -> bool
 {
     let n = w.len();
     let all = symbol_bytes(w);
-    all & ((n >= 1) & (n <= 255))
+    all & ((n >= 1) & (n <= LONGEST_SYMBOL))
 }
 
 fn name_held(label: &[u8], a: usize, b: usize) -> bool
-    requires { ⌜ length (now label) ≤ 65535 ⌝ }
-    ensures { λ r. ⌜ r ≡ heldTest isName (now (label .entry)) (span a b) ⌝ }
+    requires { ⌜ length (now label) ≤ longest ⌝ }
+    ensures { λ r. ⌜ r ≡ heldTest isName (now (label .entry)) (asSpan a b) ⌝ }
 {
     if b < a {
         return false;
@@ -75,11 +59,11 @@ fn name_held(label: &[u8], a: usize, b: usize) -> bool
     if label.len() < b {
         return false;
     }
-    name_word(&label[a..b])
+    is_name(&label[a..b])
 }
 
 fn text_held(label: &[u8], a: usize, b: usize) -> bool
-    ensures { λ r. ⌜ r ≡ heldTest isText (now (label .entry)) (span a b) ⌝ }
+    ensures { λ r. ⌜ r ≡ heldTest isText (now (label .entry)) (asSpan a b) ⌝ }
 {
     if b < a {
         return false;
@@ -91,7 +75,7 @@ fn text_held(label: &[u8], a: usize, b: usize) -> bool
 }
 
 fn symbol_held(label: &[u8], a: usize, b: usize) -> bool
-    ensures { λ r. ⌜ r ≡ heldTest isSymbol (now (label .entry)) (span a b) ⌝ }
+    ensures { λ r. ⌜ r ≡ heldTest isSymbol (now (label .entry)) (asSpan a b) ⌝ }
 {
     if b < a {
         return false;
@@ -103,11 +87,10 @@ fn symbol_held(label: &[u8], a: usize, b: usize) -> bool
 }
 
 pub fn good_span(label: &[u8], row: Row) -> bool
-    requires { ⌜ length (now label) ≤ 65535 ⌝ }
-    ensures { λ r. ⌜ r ≡ passes (spanTest (now (label .entry))) (rowsOf row) ⌝ }
+    requires { ⌜ length (now label) ≤ longest ⌝ }
+    ensures { λ r. ⌜ r ≡ spanTest (now (label .entry)) (rowOf row) ⌝ }
 {
     match row {
-        Row::Nothing => false,
         Row::Attribute(a, b) => name_held(label, a, b),
         Row::Pointer(a, b) => name_held(label, a, b),
         Row::Open(_, a, b) => name_held(label, a, b),
@@ -123,6 +106,5 @@ pub fn good_span(label: &[u8], row: Row) -> bool
         Row::Set => true,
         Row::SetEnd => true,
         Row::Last(n) => n <= label.len(),
-        Row::Stop(_, _) => false,
     }
 }

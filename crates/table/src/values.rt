@@ -1,13 +1,23 @@
 // The value of a row: numbers in their range and as they are held, dates and times that there are.
 use rows::Row;
 use words::Moment;
+use words::PAST_INTEGER;
+use words::PAST_NUMBER;
 use words::Real;
 use words::month_length;
 ghost use mathlib.Core.Path.{_≡_};
-ghost use Rattle.rules.proofs.Tables.Checks.{withinTest, realTest, datedTest, timedTest, undatedTest, untimedTest, momentTest, valueTest};
+ghost use Rattle.rules.proofs.Machine.Checks.{withinTest, realTest, datedTest, timedTest, undatedTest, untimedTest, momentTest, valueTest};
 ghost use Rattle.words.specs.Says.{whole, realOf, momentOf};
-ghost use Rattle.rows.specs.Rows.{rowsOf};
-ghost use Rattle.table.specs.Decoding.{passes};
+ghost use Rattle.rows.specs.Rows.{rowOf};
+
+// Past every power of ten that is held.
+const PAST_POWER: u64 = 1000;
+
+// Past every exponent of a unit.
+const PAST_EXPONENT: u64 = 100;
+
+// Past every offset, in minutes.
+const PAST_OFFSET: u64 = 780;
 
 // Below a limit either side of zero, and no minus zero.
 fn within(minus: bool, size: u64, limit: u64) -> bool
@@ -19,8 +29,8 @@ fn within(minus: bool, size: u64, limit: u64) -> bool
 fn real_held(x: Real) -> bool
     ensures { λ r. ⌜ r ≡ realTest (realOf x) ⌝ }
 {
-    let a = within(x.minus, x.number, 1_000_000_000_000_000_000);
-    let b = within(x.below, x.power as u64, 1000);
+    let a = within(x.minus, x.number, PAST_NUMBER);
+    let b = within(x.below, x.power as u64, PAST_POWER);
     a & (b & ((x.number % 10 != 0) | ((x.number == 0) & (x.power == 0))))
 }
 
@@ -36,7 +46,7 @@ fn dated(x: Moment) -> bool
 fn timed(x: Moment) -> bool
     ensures { λ r. ⌜ r ≡ timedTest (momentOf x) ⌝ }
 {
-    let a = within(x.west, x.offset as u64, 780);
+    let a = within(x.west, x.offset as u64, PAST_OFFSET);
     (x.hour < 24) & ((x.minute < 60) & ((x.second < 60) & ((x.nanoseconds < 1_000_000_000) & a)))
 }
 
@@ -65,25 +75,23 @@ fn moment_held(x: Moment) -> bool
 }
 
 pub fn good_value(row: Row) -> bool
-    ensures { λ r. ⌜ r ≡ passes valueTest (rowsOf row) ⌝ }
+    ensures { λ r. ⌜ r ≡ valueTest (rowOf row) ⌝ }
 {
     match row {
-        Row::Nothing => false,
         Row::Attribute(_, _) => true,
         Row::Pointer(_, _) => true,
         Row::Open(_, _, _) => true,
         Row::Close(_) => true,
-        Row::Integer(m, v) => within(m, v, 0x8000_0000_0000_0000),
+        Row::Integer(m, v) => within(m, v, PAST_INTEGER),
         Row::Float(x) => real_held(x),
         Row::Time(x) => moment_held(x),
         Row::Text(_, _) => true,
         Row::Symbol(_, _) => true,
-        Row::Unit(_, _, _, m, v) => within(m, v, 100),
+        Row::Unit(_, _, _, m, v) => within(m, v, PAST_EXPONENT),
         Row::Sequence => true,
         Row::SequenceEnd => true,
         Row::Set => true,
         Row::SetEnd => true,
         Row::Last(_) => true,
-        Row::Stop(_, _) => false,
     }
 }

@@ -16,10 +16,10 @@ use Rattle.forms.specs.declared.Span.{Span}
 use Rattle.forms.specs.declared.Date.{Date}
 use Rattle.forms.specs.declared.Date.the-variants.{InYear, InMonth}
 use Rattle.forms.specs.Forms.{on, dateOf}
-use Rattle.words.specs.declared.days.Found.{Found}
-use Rattle.words.specs.declared.days.Found.the-variants.{Missing, On}
-use Rattle.words.specs.Days.{months, lengthIn, total, daysBefore, Before, foundOf, YearDay, MonthDay, yearOf}
-use Rattle.words.proofs.Decimals.{and-no}
+use Rattle.words.specs.declared.days.InCalendar.{InCalendar}
+use Rattle.words.specs.declared.days.InCalendar.the-variants.{Missing, On}
+use Rattle.words.specs.Days.{months, lengthIn, total, daysBefore, Before, dayIfAny, YearDay, MonthDay, yearOf}
+use Rattle.rules.proofs.Tables.Tests.{and-false}
 
 -- ---- a test of every number below a bound
 
@@ -148,7 +148,7 @@ module _ (y n : ℕ) where
   no-year h = record { day = λ k e. rw h }
 
   pub no-count : n ≡ 0 → YearDay y n Missing
-  no-count h = record { day = λ k e. let q : k ≡ 0 = omega arith in rw (q, and-no (leb 1 y)) }
+  no-count h = record { day = λ k e. let q : k ≡ 0 = omega arith in rw (q, and-false (leb 1 y)) }
 
   pub year-end : (d : ℕ) → (y ≡ 0 → ⊥) → (n ≡ 0 → ⊥) → Before y 12 d → d + 31 < n → YearDay y n Missing
   unfolding daysBefore
@@ -204,19 +204,19 @@ module _ (y m d : ℕ) where
   month-no-year h = record { day = λ j k e f. rw h }
 
   pub no-month : m ≡ 0 → MonthDay y m d Missing
-  no-month h = record { day = λ j k e f. let q : j ≡ 0 = omega arith in rw (q, and-no (leb 1 y)) }
+  no-month h = record { day = λ j k e f. let q : j ≡ 0 = omega arith in rw (q, and-false (leb 1 y)) }
 
   pub late-month : 12 < m → MonthDay y m d Missing
-  late-month h = record { day = λ j k e f. rw (lt-leb j 12 (omega arith), and-no (leb 1 j), and-no (leb 1 y)) }
+  late-month h = record { day = λ j k e f. rw (lt-leb j 12 (omega arith), and-false (leb 1 j), and-false (leb 1 y)) }
 
   pub no-day : d ≡ 0 → MonthDay y m d Missing
-  no-day h = record { day = λ j k e f. let q : k ≡ 0 = omega arith in rw (q, and-no (leb 1 j && leb j 12), and-no (leb 1 y)) }
+  no-day h = record { day = λ j k e f. let q : k ≡ 0 = omega arith in rw (q, and-false (leb 1 j && leb j 12), and-false (leb 1 y)) }
 
   pub late-day : (l : ℕ) → m ≤ 12 → l ≡ monthLength y m → l < d → MonthDay y m d Missing
   late-day l h q g = record {
     day = λ j k e f.
         let x : j ≡ m = omega arith in
-        rw (x, lt-leb k (monthLength y m) (omega arith), and-no (leb 1 k), and-no (leb 1 m && leb m 12), and-no (leb 1 y));
+        rw (x, lt-leb k (monthLength y m) (omega arith), and-false (leb 1 k), and-false (leb 1 m && leb m 12), and-false (leb 1 y));
   }
 
   pub day-found : (l : ℕ) → (y ≡ 0 → ⊥) → (m ≡ 0 → ⊥) → m ≤ 12 → (d ≡ 0 → ⊥) → l ≡ monthLength y m → l ≤ 31 → d ≤ l → MonthDay y m d (On (record { year = y; month = m; day = d }))
@@ -233,14 +233,14 @@ pub year-small : (w : List ℕ) (date : Date) (y : ℕ) → yearOf (dateOf w dat
 year-small w (InYear n) y h e = omega arith
 year-small w (InMonth m d) y h e = omega arith
 
-pub by-year : (w : List ℕ) (date : Date) (n : Span) (y k : ℕ) {r : Found} → yearOf (dateOf w date) ≤ 9999 → date ≡ InYear n → y ≡ min 10000 (number (part w 0 4)) → k ≡ min 10000 (number (on w n)) → YearDay y k r →
-    dayOf (dateOf w date) ≡ foundOf r
+pub by-year : (w : List ℕ) (date : Date) (n : Span) (y k : ℕ) {r : InCalendar} → yearOf (dateOf w date) ≤ 9999 → date ≡ InYear n → y ≡ min 10000 (number (part w 0 4)) → k ≡ min 10000 (number (on w n)) → YearDay y k r →
+    dayOf (dateOf w date) ≡ dayIfAny r
 by-year w date n y k h q e f v =
     let z : number (part w 0 4) ≡ y = omega (arith, year-small w date y h e) in
     rw (q, z) (v .day (number (on w n)) f)
 
-pub by-month : (w : List ℕ) (date : Date) (m d : Span) (y j k : ℕ) {r : Found} → yearOf (dateOf w date) ≤ 9999 → date ≡ InMonth m d → y ≡ min 10000 (number (part w 0 4)) → j ≡ min 10000 (number (on w m)) → k ≡ min 10000 (number (on w d)) → MonthDay y j k r →
-    dayOf (dateOf w date) ≡ foundOf r
+pub by-month : (w : List ℕ) (date : Date) (m d : Span) (y j k : ℕ) {r : InCalendar} → yearOf (dateOf w date) ≤ 9999 → date ≡ InMonth m d → y ≡ min 10000 (number (part w 0 4)) → j ≡ min 10000 (number (on w m)) → k ≡ min 10000 (number (on w d)) → MonthDay y j k r →
+    dayOf (dateOf w date) ≡ dayIfAny r
 by-month w date m d y j k h q e f g v =
     let z : number (part w 0 4) ≡ y = omega (arith, year-small w date y h e) in
     rw (q, z) (v .day (number (on w m)) (number (on w d)) f g)

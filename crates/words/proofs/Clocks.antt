@@ -19,15 +19,16 @@ use Rattle.forms.specs.declared.Stamp.{Stamp}
 use Rattle.forms.specs.declared.Stamp.the-variants.{Undated, Dated}
 use Rattle.forms.specs.Forms.{on, dateOf, clockOf, timeOf}
 use Rattle.words.specs.declared.days.Day as code
-use Rattle.words.specs.declared.days.Found.{Found}
-use Rattle.words.specs.declared.days.Found.the-variants.{Missing, On}
+use Rattle.words.specs.declared.days.InCalendar.{InCalendar}
+use Rattle.words.specs.declared.days.InCalendar.the-variants.{Missing, On}
 use Rattle.words.specs.declared.Value.{Value}
 use Rattle.words.specs.declared.Value.the-variants.{Time, Past}
 use Rattle.words.specs.Says.{Worth}
 use Rattle.words.specs.Parts.{Significant}
-use Rattle.words.specs.Days.{dayIs, foundOf, yearOf}
-use Rattle.words.specs.Times.{nanos, nanosOf, Zoned, Timed, Kept}
-use Rattle.words.proofs.Decimals.{and-no}
+use Rattle.words.specs.Days.{dayIs, dayIfAny, yearOf}
+use Rattle.words.specs.Times.{nanos, nanosOf, InZone, Timed, InDigits}
+use Rattle.rules.proofs.Tables.Tests.{and-false}
+use Rattle.rules.proofs.Written.PrintedMoments.{significant-all}
 use Rattle.words.proofs.Calendar.{upto}
 
 -- ---- nanoseconds
@@ -57,18 +58,10 @@ onto-bound n c (one {b} {s} k ks) h =
 pub number-bound : {s : List ℕ} → All digit s → number s < 10 ^ length s
 number-bound {s} h = rw one-mul at (onto-bound 0 1 h (omega arith))
 
-all-significant : {s : List ℕ} → All digit s → All digit (significant s)
-all-significant none = none
-all-significant (one {b} {s} h hs) = go (eqb b 48 && _) (all-significant hs)
-  where
-    go : (t : Bool) → All digit (significant s) → All digit (cond t [] (b ∷ significant s))
-    go true a = none
-    go false a = one h a
-
 -- at most 9 decimals are fewer than 10^9 nanoseconds
 nanos-bound : (ds : List ℕ) → All digit ds → length (significant ds) ≤ 9 → nanos ds < 1000000000
 nanos-bound ds h l =
-    let a : number (significant ds) < 10 ^ length (significant ds) = number-bound (all-significant h) in
+    let a : number (significant ds) < 10 ^ length (significant ds) = number-bound (significant-all ds h) in
     let e : length (significant ds) + (9 - length (significant ds)) ≡ 9 = omega arith in
     let p : 10 ^ length (significant ds) * 10 ^ (9 - length (significant ds)) ≡ 1000000000 = sym (pow-add 10 (length (significant ds)) (9 - length (significant ds))) ∙ ap (λ (x : ℕ). 10 ^ x) e in
     let z : 0 < 10 ^ (9 - length (significant ds)) = omega (arith, ten-least (9 - length (significant ds)) (omega arith), ten-is (9 - length (significant ds)) (omega arith)) in
@@ -90,7 +83,7 @@ unfolding nanosOf
 nanos-are ds k n t a s h e f =
     let z : k - 0 ≡ k = omega arith in
     let l : length (significant ds) ≡ k = ap length (s .is) ∙ length-take-le k ds (s .within) in
-    let b : number (significant ds) < 10 ^ length (significant ds) = number-bound (all-significant a) in
+    let b : number (significant ds) < 10 ^ length (significant ds) = number-bound (significant-all ds a) in
     let q : onto 0 (take (k - 0) ds) ≡ number (significant ds) = rw z (ap number (sym (s .is))) in
     let p : 10 ^ length (significant ds) ≤ 1000000000 = pow-le-pow-right {n = 10} (omega arith) {i = length (significant ds)} {j = 9} (omega arith) in
     let x : n ≡ number (significant ds) = omega arith in
@@ -100,13 +93,13 @@ nanos-are ds k n t a s h e f =
 -- ---- the zone
 
 module _ (parts : ℕ) (d : Day) (h m s n : ℕ) (z : ZoneR) where
-  pub zone-hour : (x : ℕ) → x ≡ min 10000 (z .hours) → 12 < x → Zoned parts d h m s n z Past
+  pub zone-hour : (x : ℕ) → x ≡ min 10000 (z .hours) → 12 < x → InZone parts d h m s n z Past
   zone-hour x e k = record { worth = λ w off. rw (lt-leb (z .hours) 12 (omega arith)) }
 
-  pub zone-minute : (x : ℕ) → x ≡ min 10000 (z .minutes) → 59 < x → Zoned parts d h m s n z Past
-  zone-minute x e k = record { worth = λ w off. rw (lt-leb (z .minutes) 59 (omega arith), and-no (leb (z .hours) 12)) }
+  pub zone-minute : (x : ℕ) → x ≡ min 10000 (z .minutes) → 59 < x → InZone parts d h m s n z Past
+  zone-minute x e k = record { worth = λ w off. rw (lt-leb (z .minutes) 59 (omega arith), and-false (leb (z .hours) 12)) }
 
-  pub zone-kept : (x y : ℕ) → x ≡ min 10000 (z .hours) → y ≡ min 10000 (z .minutes) → x ≤ 12 → y ≤ 59 → Zoned parts d h m s n z (Time (record {
+  pub zone-kept : (x y : ℕ) → x ≡ min 10000 (z .hours) → y ≡ min 10000 (z .minutes) → x ≤ 12 → y ≤ 59 → InZone parts d h m s n z (Time (record {
     parts = parts;
     year = d .year;
     month = d .month;
@@ -149,22 +142,22 @@ module _ (parts : ℕ) (d : Day) (w : List ℕ) (c : Clock) (z : ZoneR) where
   late-hour h e k = record { worth = λ v off. rw (le-ltb (number (on w (c .hour))) 24 (omega arith)) }
 
   pub late-minute : (m : ℕ) → m ≡ min 10000 (number (on w (c .minute))) → 59 < m → Timed parts d (clockOf w c z) Past
-  late-minute m e k = record { worth = λ v off. rw (le-ltb (number (on w (c .minute))) 60 (omega arith), and-no (ltb (number (on w (c .hour))) 24)) }
+  late-minute m e k = record { worth = λ v off. rw (le-ltb (number (on w (c .minute))) 60 (omega arith), and-false (ltb (number (on w (c .hour))) 24)) }
 
   pub late-second : (s : ℕ) → s ≡ min 10000 (number (on w (c .second))) → 59 < s → Timed parts d (clockOf w c z) Past
   late-second s e k = record {
     worth = λ v off.
-        rw (le-ltb (number (on w (c .second))) 60 (omega arith), and-no (ltb (number (on w (c .minute))) 60), and-no (ltb (number (on w (c .hour))) 24));
+        rw (le-ltb (number (on w (c .second))) 60 (omega arith), and-false (ltb (number (on w (c .minute))) 60), and-false (ltb (number (on w (c .hour))) 24));
   }
 
   pub many-decimals : (n : ℕ) (ds : List ℕ) → All digit (on w (c .decimals)) → ds ≡ on w (c .decimals) → n ≡ nanosOf ds → 999999999 < n → Timed parts d (clockOf w c z) Past
   many-decimals n ds a q e k = record {
     worth = λ v off.
-        rw (many (on w (c .decimals)) n a (e ∙ ap nanosOf q) k, and-no (ltb (number (on w (c .second))) 60), and-no (ltb (number (on w (c .minute))) 60), and-no (ltb (number (on w (c .hour))) 24));
+        rw (many (on w (c .decimals)) n a (e ∙ ap nanosOf q) k, and-false (ltb (number (on w (c .second))) 60), and-false (ltb (number (on w (c .minute))) 60), and-false (ltb (number (on w (c .hour))) 24));
   }
 
   pub time-kept : {r : Value} (h m s n : ℕ) (ds : List ℕ) → h ≡ min 10000 (number (on w (c .hour))) → m ≡ min 10000 (number (on w (c .minute))) → s ≡ min 10000 (number (on w (c .second))) →
-      ds ≡ on w (c .decimals) → n ≡ nanosOf ds → h ≤ 23 → m ≤ 59 → s ≤ 59 → n ≤ 999999999 → Zoned parts d h m s n z r → Timed parts d (clockOf w c z) r
+      ds ≡ on w (c .decimals) → n ≡ nanosOf ds → h ≤ 23 → m ≤ 59 → s ≤ 59 → n ≤ 999999999 → InZone parts d h m s n z r → Timed parts d (clockOf w c z) r
   time-kept h m s n ds eh em es q en kh km ks kn v =
       let f = few (on w (c .decimals)) n (en ∙ ap nanosOf q) kn in
       let a : number (on w (c .hour)) ≡ h = omega (arith, eh, kh) in
@@ -174,11 +167,11 @@ module _ (parts : ℕ) (d : Day) (w : List ℕ) (c : Clock) (z : ZoneR) where
 
 -- ---- with a date or without
 
-module _ (w : List ℕ) (date : Date) (f : Found) where
-  pub no-such-day : dayOf (dateOf w date) ≡ foundOf f → f ≡ Missing → Worth (a-date (dateOf w date)) Past
+module _ (w : List ℕ) (date : Date) (f : InCalendar) where
+  pub no-such-day : dayOf (dateOf w date) ≡ dayIfAny f → f ≡ Missing → Worth (a-date (dateOf w date)) Past
   no-such-day e q = record { worth = λ v off. rw (e, q) }
 
-  pub such-day : (day : code.Day) → dayOf (dateOf w date) ≡ foundOf f → f ≡ On day → Worth (a-date (dateOf w date)) (Time (record {
+  pub such-day : (day : code.Day) → dayOf (dateOf w date) ≡ dayIfAny f → f ≡ On day → Worth (a-date (dateOf w date)) (Time (record {
     parts = 1;
     year = day .year;
     month = day .month;
@@ -192,24 +185,24 @@ module _ (w : List ℕ) (date : Date) (f : Found) where
   }))
   such-day day e q = record { worth = λ v off. rw (e, q) }
 
-  pub no-day-time : (t : TimeR) → dayOf (dateOf w date) ≡ foundOf f → f ≡ Missing → Worth (a-date-time (dateOf w date) t) Past
+  pub no-day-time : (t : TimeR) → dayOf (dateOf w date) ≡ dayIfAny f → f ≡ Missing → Worth (a-date-time (dateOf w date) t) Past
   no-day-time t e q = record { worth = λ v off. rw (e, q) }
 
-  pub day-time : {r : Value} (t : TimeR) (day : code.Day) → dayOf (dateOf w date) ≡ foundOf f → f ≡ On day → Timed 3 (dayIs day) t r → Worth (a-date-time (dateOf w date) t) r
+  pub day-time : {r : Value} (t : TimeR) (day : code.Day) → dayOf (dateOf w date) ≡ dayIfAny f → f ≡ On day → Timed 3 (dayIs day) t r → Worth (a-date-time (dateOf w date) t) r
   day-time t day e q v = record { worth = λ u off. rw (e, q) (v .worth u off) }
 
 module _ (w : List ℕ) (stamp : Stamp) (c : Clock) (z : ZoneR) where
-  pub undated-digits : Kept (timeOf w stamp c z) → stamp ≡ Undated → All digit (on w (c .decimals))
+  pub undated-digits : InDigits (timeOf w stamp c z) → stamp ≡ Undated → All digit (on w (c .decimals))
   undated-digits k q = rw q at k
 
-  both-kept : (date : Date) → Kept (timeOf w stamp c z) → stamp ≡ Dated date → (yearOf (dateOf w date) ≤ 9999) × All digit (on w (c .decimals))
-  both-kept date k q = rw q at k
+  both-in-digits : (date : Date) → InDigits (timeOf w stamp c z) → stamp ≡ Dated date → (yearOf (dateOf w date) ≤ 9999) × All digit (on w (c .decimals))
+  both-in-digits date k q = rw q at k
 
-  pub dated-year : (date : Date) → Kept (timeOf w stamp c z) → stamp ≡ Dated date → yearOf (dateOf w date) ≤ 9999
-  dated-year date k q = both-kept date k q .0
+  pub dated-year : (date : Date) → InDigits (timeOf w stamp c z) → stamp ≡ Dated date → yearOf (dateOf w date) ≤ 9999
+  dated-year date k q = both-in-digits date k q .0
 
-  pub dated-digits : (date : Date) → Kept (timeOf w stamp c z) → stamp ≡ Dated date → All digit (on w (c .decimals))
-  dated-digits date k q = both-kept date k q .1
+  pub dated-digits : (date : Date) → InDigits (timeOf w stamp c z) → stamp ≡ Dated date → All digit (on w (c .decimals))
+  dated-digits date k q = both-in-digits date k q .1
 
   pub undated : {r : Value} → stamp ≡ Undated → Timed 2 noDay (clockOf w c z) r → Worth (timeOf w stamp c z) r
   undated q v = rw q (record { worth = v .worth })

@@ -12,15 +12,12 @@ use lib.ListN.{length, getD, take, length-append}
 use lib.Seq.{take-all, take-suc, length-take-le}
 use Rattle.rules.specs.Data.{Whole}
 use Rattle.rules.specs.Values.{onto, number, signed, each, significant, moved, realKept, a-decimal}
+use Rattle.rules.proofs.Tables.Tests.{and-false}
 use Rattle.words.specs.declared.Value.{Value}
 use Rattle.words.specs.declared.Value.the-variants.{Float, Past}
 use Rattle.words.specs.Says.{Worth}
 use Rattle.words.specs.Parts.{Significant, Real-is, Finished, Scaled}
 use Rattle.words.proofs.Digits.{grows}
-
-pub and-no : (a : Bool) → (a && false) ≡ false
-and-no true = refl
-and-no false = refl
 
 and-yes : (a : Bool) → (a && true) ≡ a
 and-yes true = refl
@@ -37,7 +34,7 @@ each-zeros (d ∷ a) b h = ap (λ (t : Bool). eqb d 48 && t) (each-zeros a b h)
 
 each-other : (a b : List ℕ) → each nought b ≡ false → each nought (a ++ b) ≡ false
 each-other [] b h = h
-each-other (d ∷ a) b h = rw (each-other a b h) (and-no (eqb d 48))
+each-other (d ∷ a) b h = rw (each-other a b h) (and-false (eqb d 48))
 
 zeros-alone : (b : List ℕ) → each nought b ≡ true → significant b ≡ []
 zeros-alone [] h = refl
@@ -49,7 +46,7 @@ zeros-behind (d ∷ a) b h = rw (each-zeros a b h, zeros-behind a b h)
 
 digit-behind : (a b : List ℕ) → each nought b ≡ false → significant (a ++ b) ≡ a ++ significant b
 digit-behind [] b h = refl
-digit-behind (d ∷ a) b h = rw (each-other a b h, and-no (eqb d 48), digit-behind a b h)
+digit-behind (d ∷ a) b h = rw (each-other a b h, and-false (eqb d 48), digit-behind a b h)
 
 all-noughts : (s : List ℕ) → significant s ≡ [] → each nought s ≡ true
 all-noughts [] e = refl
@@ -97,7 +94,7 @@ real-kept : (neg t : Bool) (m p : ℕ) → (m ≡ 0 → ⊥) → m < 10 ^ 18 →
 real-kept neg t m p z h k e = record { worth = λ w off. rw (ne-eqb m 0 z, lt-ltb m (10 ^ 18) h, le-leb p 999 k, e, and-yes neg) }
 
 far-power : (n p : Whole) → 999 < p .size → realKept (record { number = n; power = p }) ≡ cond (eqb (n .size) 0) (some (record { number = signed false 0; power = signed false 0 })) none
-far-power n p h = rw (lt-leb (p .size) 999 h, and-no (ltb (n .size) (10 ^ 18)))
+far-power n p h = rw (lt-leb (p .size) 999 h, and-false (ltb (n .size) (10 ^ 18)))
 
 far-past : (n p : Whole) → (n .size ≡ 0 → ⊥) → 999 < p .size → Real-is n p Past
 far-past n p z h = record { worth = λ w off. rw (far-power n p h, ne-eqb (n .size) 0 z) }

@@ -1,4 +1,4 @@
--- Digits: the bytes of a span, the loops that add digits up, and integers, decimal and based.
+-- Digits: the loops that add digits up, and integers, decimal and based.
 use Prim.Native.Nat.{ℕ, _+_, _-_, _*_, _/_, _^_, _≤_, _<_, min}
 use mathlib.Core.Bool.{Bool, true, false, cond, not, _&&_}
 use mathlib.Core.Path.{_≡_, refl, sym, ap, _∙_}
@@ -7,12 +7,11 @@ use native.Mathlib.Nat.{le-refl, mul-le-mul-left, le-div-iff-mul-le, div-lt-iff-
 use native.Mathlib.Omega.{arith}
 use borrow.Author.Tests.{lt-ltb, le-ltb, le-leb, lt-leb}
 use lib.Dec.{eqb, ltb}
-use lib.ListN.{length, getD, take, drop, drop-of-length-le, length-drop}
-use lib.Seq.{take-nil, take-all}
+use lib.ListN.{length, getD, drop, drop-of-length-le}
 use Rattle.rules.specs.Bytes.{digit, fold}
 use Rattle.rules.specs.Data as elem
 use Rattle.rules.specs.Values.{onto, number, signed, within, fits, worth, inBase, each, a-whole, a-based}
-use Rattle.rules.proofs.Elements.Pieces.{is, over, limited}
+use Rattle.rules.proofs.Machine.Words.{is, over, limited}
 use Rattle.words.specs.declared.Value.{Value}
 use Rattle.words.specs.declared.Value.the-variants.{Integer, Based, Past}
 use Rattle.words.specs.Says.{Worth}
@@ -50,17 +49,6 @@ pub whole : (first : ℕ) (ds : List ℕ) (cap n i : ℕ) → Adding first ds ca
 whole first ds cap n i v h =
     let e : onto n (drop i ds) ≡ n = ap (onto n) (drop-of-length-le ds h) in
     omega (arith, v .same)
-
--- ---- the bytes of a span
-
-pub none-before : (w : List ℕ) (a b : ℕ) → b ≤ a → [] ≡ take (b - a) (drop a w)
-none-before w a b h = let q : b - a ≡ 0 = omega arith in rw q
-
-pub none-past : (w : List ℕ) (a b : ℕ) → length w ≤ a → [] ≡ take (b - a) (drop a w)
-none-past w a b h = rw (drop-of-length-le w h, take-nil (b - a))
-
-pub the-rest : (w : List ℕ) (a b : ℕ) → length w < b → take (length w - a) (drop a w) ≡ take (b - a) (drop a w)
-the-rest w a b h = rw (take-all (length w - a) (drop a w) (simp length-drop (omega arith)), take-all (b - a) (drop a w) (simp length-drop (omega arith)))
 
 pub number-is : (n : ℕ) (s t : List ℕ) → s ≡ t → n ≡ min 10000 (onto 0 s) → n ≡ min 10000 (number t)
 number-is n s t e h = h ∙ ap (λ (u : List ℕ). min 10000 (onto 0 u)) e

@@ -7,20 +7,20 @@ use mathlib.Core.List.{List, []}
 use native.Mathlib.Omega.{arith}
 use lib.ListN.{length, take, length-take}
 use Rattle.rules.specs.Data as rule
-use Rattle.rules.specs.Modes.{base}
 use Rattle.rules.specs.Values as rules
-use Rattle.rules.proofs.Elements.Pieces.{Verdict, is, over, formless, classify, Classified, form-once, past-once, formless-once}
+use Rattle.rules.proofs.Machine.Words.{WordVerdict, is, over, formless}
 use Rattle.words.specs.declared.Fixed.{Fixed}
 use Rattle.words.specs.declared.Fixed.the-variants as fixed
 use Rattle.words.specs.declared.Real.{Real}
 use Rattle.words.specs.declared.Moment.{Moment}
 use Rattle.words.specs.declared.Value.{Value}
 use Rattle.words.specs.declared.Value.the-variants.{Name, End, The, Integer, Based, Float, Time, Past, NoForm}
-use Rattle.words.specs.declared.days.Found.{Found}
-use Rattle.words.specs.declared.days.Found.the-variants.{Missing, On}
-use Rattle.words.specs.Says.{fixedOf, said, Worth, Named, Means}
+use Rattle.words.specs.declared.days.InCalendar.{InCalendar}
+use Rattle.words.specs.declared.days.InCalendar.the-variants.{Missing, On}
+use Rattle.words.specs.Says.{fixedOf, verdictOf, Worth, Named, Means}
 use Rattle.words.specs.Parts.{Significant}
-use Rattle.words.specs.Days.{foundOf}
+use Rattle.words.specs.Days.{dayIfAny}
+use Rattle.words.proofs.Reserved.{classified-once}
 use Rattle.words.specs.Times.{Timed}
 
 -- ---- values
@@ -73,7 +73,7 @@ abbrev pub momentIs : rule.Moment → Moment
 momentIs x = record { parts = x .parts; year = x .year; month = x .month; day = x .day; hour = x .hour; minute = x .minute; second = x .second; nanoseconds = x .nanoseconds; west = x .offset .minus; offset = x .offset .size }
 
 -- the value that says a verdict; NoForm for an element that no word is
-abbrev valueIs : Verdict → Value
+abbrev valueIs : WordVerdict → Value
 valueIs (is (rule.name n)) = Name
 valueIs (is (rule.the k)) = The (fixedIs k)
 valueIs (is (rule.end off)) = End
@@ -88,7 +88,7 @@ valueIs over = Past
 valueIs formless = NoForm
 
 module _ (w : List ℕ) (off : Bool) where
-  value-back : (r : Value) → valueIs (said w off r) ≡ r
+  value-back : (r : Value) → valueIs (verdictOf w off r) ≡ r
   value-back Name = refl
   value-back End = refl
   value-back (The k) = ap The (fixed-back k)
@@ -99,40 +99,35 @@ module _ (w : List ℕ) (off : Bool) where
   value-back Past = refl
   value-back NoForm = refl
 
-  said-once : (r r′ : Value) → said w off r ≡ said w off r′ → r ≡ r′
-  said-once r r′ e = sym (value-back r) ∙ ap valueIs e ∙ value-back r′
-
-  verdict : (v : Verdict) → Classified base off w v → classify base off w ≡ v
-  verdict (is e) c = form-once c
-  verdict over c = past-once c
-  verdict formless c = formless-once off c
+  verdict-once : (r r′ : Value) → verdictOf w off r ≡ verdictOf w off r′ → r ≡ r′
+  verdict-once r r′ e = sym (value-back r) ∙ ap valueIs e ∙ value-back r′
 
 pub worth-once : {v : rules.Written} {r r′ : Value} → Worth v r → Worth v r′ → r ≡ r′
-worth-once {r} {r′} x y = said-once [] false r r′ (sym (x .worth [] false) ∙ y .worth [] false)
+worth-once {r} {r′} x y = verdict-once [] false r r′ (sym (x .worth [] false) ∙ y .worth [] false)
 
 pub named-once : {w : List ℕ} {r r′ : Value} → Named w r → Named w r′ → r ≡ r′
-named-once {w} {r} {r′} x y = said-once w false r r′ (sym (x .names false) ∙ y .names false)
+named-once {w} {r} {r′} x y = verdict-once w false r r′ (sym (x .names false) ∙ y .names false)
 
 pub timed-once : {parts : ℕ} {d : rules.Day} {t : rules.Time} {r r′ : Value} → Timed parts d t r → Timed parts d t r′ → r ≡ r′
-timed-once {r} {r′} x y = said-once [] false r r′ (sym (x .worth [] false) ∙ y .worth [] false)
+timed-once {r} {r′} x y = verdict-once [] false r r′ (sym (x .worth [] false) ∙ y .worth [] false)
 
 -- of a word, whatever follows it
 pub word-once : {w : List ℕ} {r r′ : Value} → Means w r → Means w r′ → r ≡ r′
 word-once {w} {r} {r′} x y =
-    said-once w false r r′ (sym (verdict w false (said w false r) (x .means false)) ∙ verdict w false (said w false r′) (y .means false))
+    verdict-once w false r r′ (sym (classified-once w false (verdictOf w false r) (x .means false)) ∙ classified-once w false (verdictOf w false r′) (y .means false))
 
 -- ---- days and digits
 
-abbrev foundIs : Option rules.Day → Found
-foundIs none = Missing
-foundIs (some d) = On (record { year = d .year; month = d .month; day = d .day })
+abbrev dayFrom : Option rules.Day → InCalendar
+dayFrom none = Missing
+dayFrom (some d) = On (record { year = d .year; month = d .month; day = d .day })
 
-found-back : (r : Found) → foundIs (foundOf r) ≡ r
-found-back Missing = refl
-found-back (On d) = refl
+day-back : (r : InCalendar) → dayFrom (dayIfAny r) ≡ r
+day-back Missing = refl
+day-back (On d) = refl
 
-pub day-once : {d : Option rules.Day} (r r′ : Found) → d ≡ foundOf r → d ≡ foundOf r′ → r ≡ r′
-day-once r r′ x y = sym (found-back r) ∙ ap foundIs (sym x ∙ y) ∙ found-back r′
+pub day-once : {d : Option rules.Day} (r r′ : InCalendar) → d ≡ dayIfAny r → d ≡ dayIfAny r′ → r ≡ r′
+day-once r r′ x y = sym (day-back r) ∙ ap dayFrom (sym x ∙ y) ∙ day-back r′
 
 pub zeros-once : {s : List ℕ} {r r′ : ℕ} → Significant s r → Significant s r′ → r ≡ r′
 zeros-once {s} {r} {r′} x y =

@@ -12,12 +12,14 @@ use lib.ListN.{length, length-take, length-drop}
 use Rattle.rules.specs.Bytes.{All, digit}
 use Rattle.rules.specs.Bytes as bytes
 use Rattle.rules.specs.Modes.{base}
+use Rattle.rules.specs.Reading.{longest}
 use Rattle.rules.specs.Values.{number, signed, a-whole, a-based, a-decimal, a-date, Date as Date-rule, Second, Time, Written}
 use Rattle.rules.specs.Words as words
 use Rattle.rules.specs.Words.{Digits, in-radix, pointed, bare, from-to, DateWord, year-doy, year-month-day, Seconds, no-second, second, decimal, TimeWord, time, upper-T, lower-t, Shape, identifier-word, integer-word, based-word, real-word, date-time-word, range-word}
 use Rattle.rules.proofs.Words.Runs.{both}
-use Rattle.rules.proofs.Words.Shapes.{g-word, shape, shape-sound}
-use Rattle.rules.proofs.Elements.Pieces.{shaped, Classified, classified}
+use Rattle.rules.proofs.Machine.Words.{g-word, shape, shaped, Classified}
+use Rattle.rules.proofs.Words.Shapes.{shape-sound}
+use Rattle.rules.proofs.Elements.Pieces.{classified}
 use Rattle.forms.specs.declared.Span.{Span}
 use Rattle.forms.specs.declared.Date.{Date}
 use Rattle.forms.specs.declared.Clock.{Clock}
@@ -25,24 +27,24 @@ use Rattle.forms.specs.declared.Zone.{Zone}
 use Rattle.forms.specs.declared.Stamp.{Stamp}
 use Rattle.forms.specs.declared.Form.{Form}
 use Rattle.forms.specs.declared.Form.the-variants.{NoForm, Name, Whole, Radix, Decimal, Day, Moment}
-use Rattle.forms.specs.Forms.{on, dateOf, zoneOf, timeOf, written, Reads}
+use Rattle.forms.specs.Forms.{on, dateOf, zoneOf, timeOf, written, FormAt}
 use Rattle.words.specs.declared.Value.{Value}
 use Rattle.words.specs.declared.Value.the-variants as values
 use Rattle.words.specs.Says.{Worth, Named, Means}
 use Rattle.words.specs.Parts.{Valued}
 use Rattle.words.specs.Days.{yearOf}
-use Rattle.words.specs.Times.{Kept, Proper}
+use Rattle.words.specs.Times.{InDigits, WrittenInDigits}
 use Rattle.words.proofs.Clocks.{number-bound}
 
-pub short-part : (w s : List ℕ) (p : Span) → length w ≤ 65535 → s ≡ on w p → length s ≤ 65535
+pub short-part : (w s : List ℕ) (p : Span) → length w ≤ longest → s ≡ on w p → length s ≤ 65535
 short-part w s p h e = rw (e, length-take, length-drop) (omega arith)
 
 module _ (w : List ℕ) (f : Form) where
-  pub date-kept : (d : Date) → Proper (written w f) → f ≡ Day d → yearOf (dateOf w d) ≤ 9999
-  date-kept d k q = rw q at k
+  pub date-digits : (d : Date) → WrittenInDigits (written w f) → f ≡ Day d → yearOf (dateOf w d) ≤ 9999
+  date-digits d k q = rw q at k
 
-  pub time-proper : (s : Stamp) (c : Clock) (z : Zone) → Proper (written w f) → f ≡ Moment s c z → Kept (timeOf w s c (zoneOf w z))
-  time-proper s c z k q = rw q at k
+  pub time-digits : (s : Stamp) (c : Clock) (z : Zone) → WrittenInDigits (written w f) → f ≡ Moment s c z → InDigits (timeOf w s c (zoneOf w z))
+  time-digits s c z k q = rw q at k
 
   pub formless-word : f ≡ NoForm → Valued w f values.NoForm
   formless-word q = record { values = λ off. rw q }
@@ -74,36 +76,36 @@ four y Y =
     let l : 10 ^ length y ≤ 10 ^ 4 = pow-le-pow-right {n = 10} (omega arith) {i = length y} {j = 4} (leb-true (length y) 4 (o .1)) in
     omega (arith, number-bound (Y .all))
 
-year-kept : {w : List ℕ} {d : Date-rule} → DateWord w d → yearOf d ≤ 9999
-year-kept (year-doy {y} Y N) = four y Y
-year-kept (year-month-day {y} Y M D) = four y Y
+four-digits : {w : List ℕ} {d : Date-rule} → DateWord w d → yearOf d ≤ 9999
+four-digits (year-doy {y} Y N) = four y Y
+four-digits (year-month-day {y} Y M D) = four y Y
 
-decimals-kept : {w : List ℕ} {s : Second} → Seconds w s → All digit (s .decimals)
-decimals-kept no-second = bytes.none
-decimals-kept (second D) = bytes.none
-decimals-kept (decimal D F) = F
+decimal-digits : {w : List ℕ} {s : Second} → Seconds w s → All digit (s .decimals)
+decimal-digits no-second = bytes.none
+decimal-digits (second D) = bytes.none
+decimal-digits (decimal D F) = F
 
-time-kept : {w : List ℕ} {t : Time} → TimeWord w t → All digit (t .second .decimals)
-time-kept (time H M S Z) = decimals-kept S
+second-digits : {w : List ℕ} {t : Time} → TimeWord w t → All digit (t .second .decimals)
+second-digits (time H M S Z) = decimal-digits S
 
-kept : {w : List ℕ} {v : Written} → Shape base w v → Kept v
-kept (identifier-word N) = tt
-kept (integer-word N) = tt
-kept (based-word (in-radix R S A L)) = tt
-kept (real-word (pointed S D F L X)) = tt
-kept (real-word (bare S D X)) = tt
-kept (words.date-word D) = year-kept D
-kept (words.time-word T) = time-kept T
-kept (date-time-word (upper-T D T)) = (year-kept D, time-kept T)
-kept (date-time-word (lower-t D T)) = (year-kept D, time-kept T)
-kept (range-word h (from-to S D N)) = tt
+in-digits : {w : List ℕ} {v : Written} → Shape base w v → InDigits v
+in-digits (identifier-word N) = tt
+in-digits (integer-word N) = tt
+in-digits (based-word (in-radix R S A L)) = tt
+in-digits (real-word (pointed S D F L X)) = tt
+in-digits (real-word (bare S D X)) = tt
+in-digits (words.date-word D) = four-digits D
+in-digits (words.time-word T) = second-digits T
+in-digits (date-time-word (upper-T D T)) = (four-digits D, second-digits T)
+in-digits (date-time-word (lower-t D T)) = (four-digits D, second-digits T)
+in-digits (range-word h (from-to S D N)) = tt
 
-pub proper : (w : List ℕ) (f : Form) → Reads (g-word base) w 0 f → Proper (written w f)
-proper w f x = go (written w f) (x .reads)
+pub written-in-digits : (w : List ℕ) (f : Form) → FormAt (g-word base) w 0 f → WrittenInDigits (written w f)
+written-in-digits w f x = go (written w f) (x .matched)
   where
-    go : (o : Option Written) → shape base w ≡ o → Proper o
+    go : (o : Option Written) → shape base w ≡ o → WrittenInDigits o
     go none e = tt
-    go (some v) e = kept (shape-sound base w v e)
+    go (some v) e = in-digits (shape-sound base w v e)
 
-pub meaning : (w : List ℕ) (f : Form) {r : Value} → Reads (g-word base) w 0 f → Valued w f r → Means w r
-meaning w f x v = record { means = λ off. subst (Classified base off w) (ap (shaped base off) (x .reads) ∙ v .values off) (classified base off w) }
+pub meaning : (w : List ℕ) (f : Form) {r : Value} → FormAt (g-word base) w 0 f → Valued w f r → Means w r
+meaning w f x v = record { means = λ off. subst (Classified base off w) (ap (shaped base off) (x .matched) ∙ v .values off) (classified base off w) }

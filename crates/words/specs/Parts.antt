@@ -9,11 +9,11 @@ use lib.ListN.{length, take}
 use Rattle.rules.specs.Data.{Whole, real}
 use Rattle.rules.specs.Modes.{base}
 use Rattle.rules.specs.Values.{worth, inBase, each, significant, signed, moved, realKept, then}
-use Rattle.rules.proofs.Elements.Pieces.{limited, shaped}
+use Rattle.rules.proofs.Machine.Words.{limited, shaped}
 use Rattle.forms.specs.declared.Form.{Form}
 use Rattle.forms.specs.Forms.{written}
 use Rattle.words.specs.declared.Value.{Value}
-use Rattle.words.specs.Says.{said}
+use Rattle.words.specs.Says.{verdictOf}
 
 -- the number of extended digits, held to 2^63; 2^63 where a digit is not below the radix
 unfoldable pub based : ℕ → List ℕ → ℕ
@@ -26,7 +26,8 @@ pub record Significant (s : List ℕ) (r : ℕ) : Type 0 where
 
 -- the answer to a real of this number and power
 pub record Real-is (n : Whole) (p : Whole) (r : Value) : Type 0 where
-  pub worth : (w : List ℕ) (off : Bool) → limited (then (realKept (record { number = n; power = p })) (λ x. some (real x))) ≡ said w off r
+  pub worth : (w : List ℕ) (off : Bool) →
+      limited (then (realKept (record { number = n; power = p })) (λ x. some (real x))) ≡ verdictOf w off r
 
 -- of a number held to 10^18, and of a power given as a difference
 pub record Finished (neg : Bool) (m plus minus : ℕ) (r : Value) : Type 0 where
@@ -38,4 +39,4 @@ pub record Scaled (neg : Bool) (m : ℕ) (below : Bool) (scale up down : ℕ) (r
 
 -- the answer to a form
 pub record Valued (w : List ℕ) (f : Form) (r : Value) : Type 0 where
-  pub values : (off : Bool) → shaped base off (written w f) ≡ said w off r
+  pub values : (off : Bool) → shaped base off (written w f) ≡ verdictOf w off r

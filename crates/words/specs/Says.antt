@@ -4,10 +4,12 @@ use mathlib.Core.Bool.{Bool, false}
 use mathlib.Core.Path.{_≡_}
 use mathlib.Core.List.{List, map}
 use Rattle.rules.specs.Bytes.{fold}
-use Rattle.rules.specs.Data.{Whole, Real, Moment, Fixed, OBJECT, END-OBJECT, GROUP, END-GROUP, BEGIN-OBJECT, equals, comma, star, slash, caret, less, greater, lpar, rpar, lbrace, rbrace, power, name, the, end, integer, based, real, moment}
+use Rattle.rules.specs.Data.{Whole, Real, Moment, name, the, end, integer, based, real, moment}
+use Rattle.rules.specs.Data.{Fixed, OBJECT, END-OBJECT, GROUP, END-GROUP, BEGIN-OBJECT}
+use Rattle.rules.specs.Data.{equals, comma, star, slash, caret, less, greater, lpar, rpar, lbrace, rbrace, power}
 use Rattle.rules.specs.Modes.{base}
 use Rattle.rules.specs.Values.{Written, value, named}
-use Rattle.rules.proofs.Elements.Pieces.{Verdict, is, over, formless, limited, Classified}
+use Rattle.rules.proofs.Machine.Words.{WordVerdict, is, over, formless, limited, Classified}
 use Rattle.words.specs.declared.Fixed as code
 use Rattle.words.specs.declared.Fixed.the-variants as fixed
 use Rattle.words.specs.declared.Real as code-real
@@ -15,6 +17,7 @@ use Rattle.words.specs.declared.Moment as code-moment
 use Rattle.words.specs.declared.Value.{Value}
 use Rattle.words.specs.declared.Value.the-variants.{Name, End, The, Integer, Based, Float, Time, Past, NoForm}
 
+-- a reserved word or a sign of the code
 abbrev pub fixedOf : code.Fixed → Fixed
 fixedOf fixed.Object = OBJECT
 fixedOf fixed.EndObject = END-OBJECT
@@ -34,35 +37,48 @@ fixedOf fixed.OpenBrace = lbrace
 fixedOf fixed.CloseBrace = rbrace
 fixedOf fixed.Power = power
 
+-- a number of the code: its sign and its size
 abbrev pub whole : Bool → ℕ → Whole
 whole m n = record { minus = m; size = n }
 
+-- a real of the code
 abbrev pub realOf : code-real.Real → Real
 realOf x = record { number = whole (x .minus) (x .number); power = whole (x .below) (x .power) }
 
+-- a moment of the code
 abbrev pub momentOf : code-moment.Moment → Moment
-momentOf x = record { parts = x .parts; year = x .year; month = x .month; day = x .day; hour = x .hour; minute = x .minute; second = x .second; nanoseconds = x .nanoseconds; offset = whole (x .west) (x .offset) }
+momentOf x = record {
+  parts = x .parts;
+  year = x .year;
+  month = x .month;
+  day = x .day;
+  hour = x .hour;
+  minute = x .minute;
+  second = x .second;
+  nanoseconds = x .nanoseconds;
+  offset = whole (x .west) (x .offset);
+}
 
--- what the code's answer says of the word w
-abbrev pub said : List ℕ → Bool → Value → Verdict
-said w off Name = is (name (map fold w))
-said w off End = is (end off)
-said w off (The k) = is (the (fixedOf k))
-said w off (Integer neg n) = is (integer (whole neg n))
-said w off (Based neg n) = is (based (whole neg n))
-said w off (Float x) = is (real (realOf x))
-said w off (Time t) = is (moment (momentOf t))
-said w off Past = over
-said w off NoForm = formless
+-- the rules' verdict on the word w that the code's answer stands for
+abbrev pub verdictOf : List ℕ → Bool → Value → WordVerdict
+verdictOf w off Name = is (name (map fold w))
+verdictOf w off End = is (end off)
+verdictOf w off (The k) = is (the (fixedOf k))
+verdictOf w off (Integer neg n) = is (integer (whole neg n))
+verdictOf w off (Based neg n) = is (based (whole neg n))
+verdictOf w off (Float x) = is (real (realOf x))
+verdictOf w off (Time t) = is (moment (momentOf t))
+verdictOf w off Past = over
+verdictOf w off NoForm = formless
 
 -- the answer to what is written
 pub record Worth (v : Written) (r : Value) : Type 0 where
-  pub worth : (w : List ℕ) (off : Bool) → limited (value base off v) ≡ said w off r
+  pub worth : (w : List ℕ) (off : Bool) → limited (value base off v) ≡ verdictOf w off r
 
 -- the answer to an identifier
 pub record Named (w : List ℕ) (r : Value) : Type 0 where
-  pub names : (off : Bool) → limited (named false off (map fold w)) ≡ said w off r
+  pub names : (off : Bool) → limited (named false off (map fold w)) ≡ verdictOf w off r
 
 -- the answer to a word, in the rules' terms, whether END is set off or not
 pub record Means (w : List ℕ) (r : Value) : Type 0 where
-  pub means : (off : Bool) → Classified base off w (said w off r)
+  pub means : (off : Bool) → Classified base off w (verdictOf w off r)

@@ -8,10 +8,11 @@ use lib.Dec.{leb}
 use lib.ListN.{length}
 use Rattle.rules.specs.Bytes.{All, digit}
 use Rattle.rules.specs.Data.{Moment, moment}
-use Rattle.rules.specs.Values.{number, significant, signed, within, Day, Zone, Time, timeKept, at, Written, an-identifier, a-whole, a-based, a-decimal, a-date, a-time, a-date-time, a-range}
-use Rattle.rules.proofs.Elements.Pieces.{limited}
+use Rattle.rules.specs.Values.{number, significant, signed, within, Day, Zone, Time, timeKept, at}
+use Rattle.rules.specs.Values.{Written, an-identifier, a-whole, a-based, a-decimal, a-date, a-time, a-date-time, a-range}
+use Rattle.rules.proofs.Machine.Words.{limited}
 use Rattle.words.specs.declared.Value.{Value}
-use Rattle.words.specs.Says.{said}
+use Rattle.words.specs.Says.{verdictOf}
 use Rattle.words.specs.Days.{yearOf}
 
 -- the rules' nanoseconds, of at most 9 decimals
@@ -22,28 +23,41 @@ nanos ds = number (significant ds) * 10 ^ (9 - length (significant ds))
 unfoldable pub nanosOf : List ℕ → ℕ
 nanosOf ds = cond (leb (length (significant ds)) 9) (nanos ds) 1000000000
 
+-- a moment with the offset of its zone
 abbrev pub momentAt : ℕ → Day → ℕ → ℕ → ℕ → ℕ → Zone → Moment
-momentAt parts d h m s n z = record { parts = parts; year = d .year; month = d .month; day = d .day; hour = h; minute = m; second = s; nanoseconds = n; offset = signed (z .west) (z .hours * 60 + z .minutes) }
+momentAt parts d h m s n z = record {
+  parts = parts;
+  year = d .year;
+  month = d .month;
+  day = d .day;
+  hour = h;
+  minute = m;
+  second = s;
+  nanoseconds = n;
+  offset = signed (z .west) (z .hours * 60 + z .minutes);
+}
 
 -- the answer to a time of which all but the zone is kept
-pub record Zoned (parts : ℕ) (d : Day) (h m s n : ℕ) (z : Zone) (r : Value) : Type 0 where
-  pub worth : (w : List ℕ) (off : Bool) → limited (within (leb (z .hours) 12 && leb (z .minutes) 59) (moment (momentAt parts d h m s n z))) ≡ said w off r
+pub record InZone (parts : ℕ) (d : Day) (h m s n : ℕ) (z : Zone) (r : Value) : Type 0 where
+  pub worth : (w : List ℕ) (off : Bool) →
+      limited (within (leb (z .hours) 12 && leb (z .minutes) 59) (moment (momentAt parts d h m s n z))) ≡ verdictOf w off r
 
 -- the answer to a time
 pub record Timed (parts : ℕ) (d : Day) (t : Time) (r : Value) : Type 0 where
-  pub worth : (w : List ℕ) (off : Bool) → limited (within (timeKept t) (moment (at parts d t))) ≡ said w off r
+  pub worth : (w : List ℕ) (off : Bool) → limited (within (timeKept t) (moment (at parts d t))) ≡ verdictOf w off r
 
 -- the digits of what is written, as far as a value needs them: a year of at most four, and decimals of nothing else
-abbrev pub Kept : Written → Type 0
-Kept (an-identifier n) = Unit
-Kept (a-whole n) = Unit
-Kept (a-based r neg ds) = Unit
-Kept (a-decimal neg ds fs z) = Unit
-Kept (a-date d) = yearOf d ≤ 9999
-Kept (a-time t) = All digit (t .second .decimals)
-Kept (a-date-time d t) = (yearOf d ≤ 9999) × All digit (t .second .decimals)
-Kept (a-range lo hi) = Unit
+abbrev pub InDigits : Written → Type 0
+InDigits (an-identifier n) = Unit
+InDigits (a-whole n) = Unit
+InDigits (a-based r neg ds) = Unit
+InDigits (a-decimal neg ds fs z) = Unit
+InDigits (a-date d) = yearOf d ≤ 9999
+InDigits (a-time t) = All digit (t .second .decimals)
+InDigits (a-date-time d t) = (yearOf d ≤ 9999) × All digit (t .second .decimals)
+InDigits (a-range lo hi) = Unit
 
-abbrev pub Proper : Option Written → Type 0
-Proper none = Unit
-Proper (some v) = Kept v
+-- of what is written, where anything is
+abbrev pub WrittenInDigits : Option Written → Type 0
+WrittenInDigits none = Unit
+WrittenInDigits (some v) = InDigits v

@@ -6,7 +6,7 @@ ghost use mathlib.Core.Path.{_≡_};
 ghost use Prim.Native.Nat.{_≤_};
 ghost use Rattle.rules.specs.Values.{leap, monthLength, dayOf};
 ghost use Rattle.forms.specs.Forms.{dateOf};
-ghost use Rattle.words.specs.Days.{Before, YearDay, MonthDay, foundOf, yearOf};
+ghost use Rattle.words.specs.Days.{Before, YearDay, MonthDay, dayIfAny, yearOf};
 
 // A day; all 0 where there is no date.
 pub struct Day {
@@ -16,7 +16,7 @@ pub struct Day {
 }
 
 // A day that the calendar has, or that it has none.
-pub enum Found {
+pub enum InCalendar {
     Missing,
     On(Day),
 }
@@ -61,31 +61,31 @@ fn days_before(year: u64, month: u64) -> u64
 }
 
 // A year and a day of it. No month has more than 31 days, and all of them lack 7 days of that at most, so that the month is the guessed one or the next.
-fn day_in_year(year: u64, n: u64) -> Found
+fn day_in_year(year: u64, n: u64) -> InCalendar
     requires { ⌜ year ≤ 9999 ⌝ }
     ensures { λ r. ⌜ YearDay year n r ⌝ }
 {
     if year == 0 {
-        return Found::Missing;
+        return InCalendar::Missing;
     }
     if n == 0 {
-        return Found::Missing;
+        return InCalendar::Missing;
     }
     let d = days_before(year, 12);
     if d + 31 < n {
-        return Found::Missing;
+        return InCalendar::Missing;
     }
     let m = (n - 1) / 31 + 1;
     let a = days_before(year, m);
     let e = a + month_length(year, m);
     if n <= e {
-        return Found::On(Day {
+        return InCalendar::On(Day {
             year: year as u16,
             month: m as u8,
             day: (n - a) as u8,
         });
     }
-    Found::On(Day {
+    InCalendar::On(Day {
         year: year as u16,
         month: (m + 1) as u8,
         day: (n - e) as u8,
@@ -93,26 +93,26 @@ fn day_in_year(year: u64, n: u64) -> Found
 }
 
 // A year, a month and a day of the month.
-fn day_in_month(year: u64, m: u64, d: u64) -> Found
+fn day_in_month(year: u64, m: u64, d: u64) -> InCalendar
     requires { ⌜ year ≤ 9999 ⌝ }
     ensures { λ r. ⌜ MonthDay year m d r ⌝ }
 {
     if year == 0 {
-        return Found::Missing;
+        return InCalendar::Missing;
     }
     if m == 0 {
-        return Found::Missing;
+        return InCalendar::Missing;
     }
     if 12 < m {
-        return Found::Missing;
+        return InCalendar::Missing;
     }
     if d == 0 {
-        return Found::Missing;
+        return InCalendar::Missing;
     }
     if month_length(year, m) < d {
-        return Found::Missing;
+        return InCalendar::Missing;
     }
-    Found::On(Day {
+    InCalendar::On(Day {
         year: year as u16,
         month: m as u8,
         day: d as u8,
@@ -120,9 +120,9 @@ fn day_in_month(year: u64, m: u64, d: u64) -> Found
 }
 
 // The day of a date, of which the year stands in the first four bytes.
-pub fn day_of(w: &[u8], date: Date) -> Found
+pub fn day_of(w: &[u8], date: Date) -> InCalendar
     requires { ⌜ yearOf (dateOf (now w) date) ≤ 9999 ⌝ }
-    ensures { λ r. ⌜ dayOf (dateOf (now (w .entry)) date) ≡ foundOf r ⌝ }
+    ensures { λ r. ⌜ dayOf (dateOf (now (w .entry)) date) ≡ dayIfAny r ⌝ }
 {
     let y = number_of(w, Span { from: 0, upto: 4 });
     match date {

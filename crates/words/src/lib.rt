@@ -9,18 +9,23 @@ pub use days::month_length;
 use forms::Form;
 use forms::shape;
 use names::name;
+pub use numbers::PAST_INTEGER;
 use numbers::bytes_of;
 use numbers::in_radix;
 use numbers::whole;
+pub use reals::PAST_NUMBER;
 use reals::decimal;
 use times::dated;
 use times::stamped;
 ghost use Prim.Native.Nat.{_≤_};
 ghost use lib.ListN.{length};
+ghost use mathlib.Core.Path.{_≡_};
+ghost use Rattle.rules.specs.Reading.{longest};
+ghost use Rattle.rules.specs.Written.{isName};
 ghost use Rattle.forms.specs.Forms.{written};
 ghost use Rattle.words.specs.Says.{Means};
 ghost use Rattle.words.specs.Parts.{Valued};
-ghost use Rattle.words.specs.Times.{Proper};
+ghost use Rattle.words.specs.Times.{WrittenInDigits};
 
 // The words and signs that are spelled in one way: the reserved words but END, and the signs.
 pub enum Fixed {
@@ -80,8 +85,8 @@ pub enum Value {
 
 // The value of a form.
 fn value_of(w: &[u8], form: Form) -> Value
-    requires { ⌜ length (now w) ≤ 65535 ⌝ }
-    requires { ⌜ Proper (written (now w) form) ⌝ }
+    requires { ⌜ length (now w) ≤ longest ⌝ }
+    requires { ⌜ WrittenInDigits (written (now w) form) ⌝ }
     ensures { λ r. ⌜ Valued (now (w .entry)) form r ⌝ }
 {
     match form {
@@ -105,9 +110,27 @@ fn value_of(w: &[u8], form: Form) -> Value
 
 // The value of any bytes as a word.
 pub fn word(w: &[u8]) -> Value
-    requires { ⌜ length (now w) ≤ 65535 ⌝ }
+    requires { ⌜ length (now w) ≤ longest ⌝ }
     ensures { λ r. ⌜ Means (now (w .entry)) r ⌝ }
 {
     let form = shape(w);
     value_of(w, form)
+}
+
+// Whether any bytes are a name: an identifier that is not reserved, of at most 60 bytes.
+pub fn is_name(w: &[u8]) -> bool
+    requires { ⌜ length (now w) ≤ longest ⌝ }
+    ensures { λ r. ⌜ r ≡ isName (now (w .entry)) ⌝ }
+{
+    match word(w) {
+        Value::Name => true,
+        Value::End => false,
+        Value::The(_) => false,
+        Value::Integer(_, _) => false,
+        Value::Based(_, _) => false,
+        Value::Float(_) => false,
+        Value::Time(_) => false,
+        Value::Past => false,
+        Value::NoForm => false,
+    }
 }

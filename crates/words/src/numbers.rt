@@ -2,6 +2,7 @@
 use crate::Value;
 use classes::folded;
 use classes::is_digit;
+use classes::part;
 use forms::Span;
 ghost use mathlib.Core.Path.{_≡_};
 ghost use Prim.Native.Nat.{_-_, _≤_, _<_, min};
@@ -10,29 +11,21 @@ ghost use Rattle.forms.specs.Forms.{on};
 ghost use Rattle.words.specs.Says.{Worth};
 ghost use Rattle.words.specs.Parts.{based};
 
+// 2^63, past every integer that is kept.
+pub const PAST_INTEGER: u64 = 0x8000_0000_0000_0000;
+
 // The bytes of a span, as far as there are any.
 pub fn bytes_of(w: &[u8], span: Span) -> &[u8]
     ensures { λ r. ⌜ now r ≡ on (now (w .entry)) span ⌝ }
 {
-    let a = span.from;
-    let b = span.upto;
-    if b <= a {
-        return &w[0..0];
-    }
-    if w.len() <= a {
-        return &w[0..0];
-    }
-    if b <= w.len() {
-        return &w[a..b];
-    }
-    &w[a..]
+    part(w, span.from, span.upto)
 }
 
 // The value of a digit.
 fn digit_value(b: u8) -> u64
     ensures { λ r. ⌜ (r ≡ b - 48) × (r < 256) ⌝ }
 {
-    if b < 48 { 0 } else { (b - 48) as u64 }
+    if b < b'0' { 0 } else { (b - b'0') as u64 }
 }
 
 // The number that digits stand for after the digits that gave n, or the cap where it is more.
@@ -57,8 +50,8 @@ pub fn number_onto(first: u64, ds: &[u8], cap: u64) -> u64
 pub fn whole(negative: bool, ds: &[u8]) -> Value
     ensures { λ r. ⌜ Worth (a-whole (signed negative (number (now (ds .entry))))) r ⌝ }
 {
-    let n = number_onto(0, ds, 0x8000_0000_0000_0000);
-    if n == 0x8000_0000_0000_0000 {
+    let n = number_onto(0, ds, PAST_INTEGER);
+    if n == PAST_INTEGER {
         return Value::Past;
     }
     Value::Integer(negative & (n != 0), n)
@@ -98,10 +91,10 @@ fn in_base(radix: u64, ds: &[u8]) -> u64
     while i < ds.len() {
         let d = worth_of(ds[i]);
         if radix <= d {
-            return 0x8000_0000_0000_0000;
+            return PAST_INTEGER;
         }
-        if (0x8000_0000_0000_0000 - d) / radix < n {
-            return 0x8000_0000_0000_0000;
+        if (PAST_INTEGER - d) / radix < n {
+            return PAST_INTEGER;
         }
         n = n * radix + d;
         i += 1;
@@ -121,7 +114,7 @@ pub fn in_radix(radix: &[u8], negative: bool, ds: &[u8]) -> Value
         return Value::Past;
     }
     let n = in_base(b, ds);
-    if n == 0x8000_0000_0000_0000 {
+    if n == PAST_INTEGER {
         return Value::Past;
     }
     Value::Based(negative & (n != 0), n)

@@ -6,9 +6,20 @@ ghost use mathlib.Core.Path.{_≡_};
 ghost use mathlib.Core.Bool.{cond};
 ghost use Prim.Native.Nat.{_+_, _≤_};
 ghost use lib.ListN.{length};
+ghost use Rattle.rules.specs.Reading.{longest};
 ghost use Rattle.rules.specs.Values.{number, signed, a-decimal};
 ghost use Rattle.words.specs.Says.{Worth};
 ghost use Rattle.words.specs.Parts.{Significant, Finished, Scaled};
+
+// 18 digits at most, and one more than that.
+const LARGEST_NUMBER: u64 = 999_999_999_999_999_999;
+
+pub const PAST_NUMBER: u64 = 1_000_000_000_000_000_000;
+
+const LARGEST_POWER: u64 = 999;
+
+// What an exponent is held to: no digits of a word make up for it.
+const PAST_SCALE: u64 = 1_000_000;
 
 // How many digits are left without the zeros that end them.
 pub fn without_zeros(s: &[u8]) -> usize
@@ -16,7 +27,7 @@ pub fn without_zeros(s: &[u8]) -> usize
 {
     let mut j = s.len();
     while 0 < j {
-        if s[j - 1] != 48 {
+        if s[j - 1] != b'0' {
             return j;
         }
         j -= 1;
@@ -52,12 +63,12 @@ fn finish(negative: bool, m: u64, plus: u64, minus: u64) -> Value
             power: 0,
         });
     }
-    if 999_999_999_999_999_999 < m {
+    if LARGEST_NUMBER < m {
         return Value::Past;
     }
     if plus < minus {
         let p = minus - plus;
-        if 999 < p {
+        if LARGEST_POWER < p {
             return Value::Past;
         }
         return Value::Float(Real {
@@ -68,7 +79,7 @@ fn finish(negative: bool, m: u64, plus: u64, minus: u64) -> Value
         });
     }
     let p = plus - minus;
-    if 999 < p {
+    if LARGEST_POWER < p {
         return Value::Past;
     }
     Value::Float(Real {
@@ -91,19 +102,19 @@ fn scaled(negative: bool, m: u64, below: bool, scale: u64, up: u64, down: u64) -
 
 // A real of the digits before and behind the period, and an exponent.
 pub fn decimal(negative: bool, ds: &[u8], fs: &[u8], below: bool, x: &[u8]) -> Value
-    requires { ⌜ (length (now ds) ≤ 65535) × (length (now fs) ≤ 65535) ⌝ }
+    requires { ⌜ (length (now ds) ≤ longest) × (length (now fs) ≤ longest) ⌝ }
     ensures { λ r. ⌜ Worth (a-decimal negative (now (ds .entry)) (now (fs .entry)) (signed below (number (now (x .entry))))) r ⌝ }
 {
-    let scale = number_onto(0, x, 1_000_000);
+    let scale = number_onto(0, x, PAST_SCALE);
     let down = fs.len();
     let r = without_zeros(fs);
     if r == 0 {
         let k = without_zeros(ds);
-        let m = number_onto(0, &ds[0..k], 1_000_000_000_000_000_000);
+        let m = number_onto(0, &ds[0..k], PAST_NUMBER);
         let up = ds.len() - k + down;
         return scaled(negative, m, below, scale, up as u64, down as u64);
     }
-    let h = number_onto(0, ds, 1_000_000_000_000_000_000);
-    let m = number_onto(h, &fs[0..r], 1_000_000_000_000_000_000);
+    let h = number_onto(0, ds, PAST_NUMBER);
+    let m = number_onto(h, &fs[0..r], PAST_NUMBER);
     scaled(negative, m, below, scale, (down - r) as u64, down as u64)
 }

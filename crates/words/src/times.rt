@@ -2,7 +2,7 @@
 use crate::Moment;
 use crate::Value;
 use crate::days::Day;
-use crate::days::Found;
+use crate::days::InCalendar;
 use crate::days::day_of;
 use crate::numbers::bytes_of;
 use crate::numbers::number_of;
@@ -19,7 +19,7 @@ ghost use Rattle.rules.specs.Values.{a-date, a-date-time};
 ghost use Rattle.forms.specs.Forms.{on, dateOf, zoneOf, clockOf, timeOf};
 ghost use Rattle.words.specs.Says.{Worth};
 ghost use Rattle.words.specs.Days.{dayIs, yearOf};
-ghost use Rattle.words.specs.Times.{nanosOf, Zoned, Timed, Kept};
+ghost use Rattle.words.specs.Times.{nanosOf, InZone, Timed, InDigits};
 
 const TENS: [u64; 10] = [
     1,
@@ -67,7 +67,7 @@ fn zoned(
     nanos: u32,
     zone: Zone,
 ) -> Value
-    ensures { λ r. ⌜ Zoned parts (dayIs day) hour minute second nanos (zoneOf (now (w .entry)) zone) r ⌝ }
+    ensures { λ r. ⌜ InZone parts (dayIs day) hour minute second nanos (zoneOf (now (w .entry)) zone) r ⌝ }
 {
     let h = number_of(w, zone.hours);
     let m = number_of(w, zone.minutes);
@@ -122,8 +122,8 @@ pub fn dated(w: &[u8], date: Date) -> Value
     ensures { λ r. ⌜ Worth (a-date (dateOf (now (w .entry)) date)) r ⌝ }
 {
     match day_of(w, date) {
-        Found::Missing => Value::Past,
-        Found::On(day) => Value::Time(Moment {
+        InCalendar::Missing => Value::Past,
+        InCalendar::On(day) => Value::Time(Moment {
             parts: 1,
             year: day.year,
             month: day.month,
@@ -144,14 +144,14 @@ fn dated_time(w: &[u8], date: Date, clock: Clock, zone: Zone) -> Value
     ensures { λ r. ⌜ Worth (a-date-time (dateOf (now (w .entry)) date) (clockOf (now (w .entry)) clock (zoneOf (now (w .entry)) zone))) r ⌝ }
 {
     match day_of(w, date) {
-        Found::Missing => Value::Past,
-        Found::On(day) => timed(w, 3, day, clock, zone),
+        InCalendar::Missing => Value::Past,
+        InCalendar::On(day) => timed(w, 3, day, clock, zone),
     }
 }
 
 // A time, with a date or without.
 pub fn stamped(w: &[u8], stamp: Stamp, clock: Clock, zone: Zone) -> Value
-    requires { ⌜ Kept (timeOf (now w) stamp clock (zoneOf (now w) zone)) ⌝ }
+    requires { ⌜ InDigits (timeOf (now w) stamp clock (zoneOf (now w) zone)) ⌝ }
     ensures { λ r. ⌜ Worth (timeOf (now (w .entry)) stamp clock (zoneOf (now (w .entry)) zone)) r ⌝ }
 {
     match stamp {

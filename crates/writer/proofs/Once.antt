@@ -8,14 +8,13 @@ use lib.ListN.{length}
 use Rattle.rules.specs.Data as rule
 use Rattle.rules.specs.Meaning.{meaning}
 use Rattle.rules.specs.Written.{start}
-use Rattle.rules.specs.Reading.{Said}
+use Rattle.rules.specs.Reading.{longest, Said}
 use Rattle.rules.specs.Writing.{Writes}
-use Rattle.rules.proofs.Tables.Judge.{verdict-once}
+use Rattle.rules.proofs.Tables.Judge.{same-rows, verdict-once}
 use Rattle.rules.proofs.Written.Outcome.{writes-once}
-use Rattle.parts.proofs.Laws.{same-part}
-use Rattle.parts.proofs.Once.{puts-once}
-use Rattle.writer.specs.Passing.{passing, Passed}
-use Rattle.writer.proofs.Rooms.{same-rows}
+use Rattle.output.proofs.Laws.{same-part}
+use Rattle.output.proofs.Once.{puts-once}
+use Rattle.writer.specs.Passing.{passing, PassWrites}
 use Rattle.writer.specs.Answer.{said}
 use Rattle.writer.specs.declared.Writing.{Writing}
 use Rattle.writer.specs.declared.Writing.the-variants.{Written, TooLong, Improper, TooLongWritten, NoRoom}
@@ -40,7 +39,7 @@ pub write-once : {label lent room last last′ : List ℕ} {w w′ : Writing} �
 write-once {label} {lent} {room} a b = let u = writes-once label lent room a b in (said-once (u .0), u .0, u .1)
 
 -- a pass: the count and the room's last bytes, whether or not the label fits
-pub pass-once : {label lent room last last′ : List ℕ} {n n′ : ℕ} → length label ≤ 65535 → Passed label lent room last n → Passed label lent room last′ n′ → (n ≡ n′) × (last ≡ last′)
+pub pass-once : {label lent room last last′ : List ℕ} {n n′ : ℕ} → length label ≤ longest → PassWrites label lent room last n → PassWrites label lent room last′ n′ → (n ≡ n′) × (last ≡ last′)
 pass-once {label} {lent} h a b =
     let s : a .rows ≡ b .rows = same-rows (verdict-once label h lent (a .proper) (b .proper)) in
     puts-once (same-part (ap (λ (l : List rule.Row). passing 0 start rule.outside (meaning label l)) s) (a .written)) (b .written)

@@ -1,13 +1,16 @@
 // The writer: label bytes and a table into a canonical label, or why not.
 mod passes; // passes.rt: one pass over the table's rows
 
-use parts::put_bytes;
+use classes::LONGEST_LABEL;
+use classes::OWN_ROOM;
+use output::put_bytes;
 use passes::pass;
 use table::Checked;
 use table::check;
 ghost use mathlib.Core.Path.{_≡_};
 ghost use Prim.Native.Nat.{_≤_};
 ghost use lib.ListN.{length};
+ghost use Rattle.rules.specs.Reading.{longest};
 ghost use Rattle.rules.specs.Writing.{Writes};
 ghost use Rattle.table.specs.Judging.{Judges};
 ghost use Rattle.writer.specs.Answer.{said};
@@ -38,9 +41,9 @@ pub fn place_of(w: Writing) -> usize
 {
     match w {
         Writing::Written(n) => n,
-        Writing::TooLong => 65535,
+        Writing::TooLong => LONGEST_LABEL,
         Writing::Improper(at) => at,
-        Writing::TooLongWritten => 65535,
+        Writing::TooLongWritten => LONGEST_LABEL,
         Writing::NoRoom(n) => n,
     }
 }
@@ -59,18 +62,18 @@ pub fn length_of(w: Writing) -> usize
 
 // A proper table. One pass into an array of its own spares the room until the label's length is known; a longer label takes a second pass into the room.
 fn write_proper(label: &[u8], lent: &[u8], out: &mut [u8]) -> Writing
-    requires { ⌜ (length (now label) ≤ 65535) × Judges (now label) (now lent) Checked.Proper ⌝ }
+    requires { ⌜ (length (now label) ≤ longest) × Judges (now label) (now lent) Checked.Proper ⌝ }
     ensures { λ r. ⌜ Writes (now (label .entry)) (now (lent .entry)) (now (out .entry)) (said r) (now (out .exit)) ⌝ }
 {
-    let mut own = [0u8; 16384];
+    let mut own = [0u8; OWN_ROOM];
     let n = pass(label, lent, &mut own);
-    if 65535 < n {
+    if LONGEST_LABEL < n {
         return Writing::TooLongWritten;
     }
     if out.len() < n {
         return Writing::NoRoom(n);
     }
-    if n <= 16384 {
+    if n <= OWN_ROOM {
         put_bytes(out, &own[0..n]);
         return Writing::Written(n);
     }
@@ -81,7 +84,7 @@ fn write_proper(label: &[u8], lent: &[u8], out: &mut [u8]) -> Writing
 pub fn write(label: &[u8], table: &[u8], out: &mut [u8]) -> Writing
     ensures { λ r. ⌜ Writes (now (label .entry)) (now (table .entry)) (now (out .entry)) (said r) (now (out .exit)) ⌝ }
 {
-    if 65535 < label.len() {
+    if LONGEST_LABEL < label.len() {
         return Writing::TooLong;
     }
     match check(label, table) {

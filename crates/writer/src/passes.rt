@@ -5,33 +5,38 @@ use blocks::name_start;
 use blocks::no_blocks;
 use blocks::pop;
 use blocks::push;
-use parts::least;
-use parts::put_bytes;
+use classes::LONGEST_LABEL;
+use classes::least;
+use output::put_bytes;
 use printing::Prior;
-use printing::prior_after;
+use printing::prior_of;
 use printing::put_row;
+use rows::DEEPEST;
+use rows::Got;
 use rows::Row;
+use rows::row_at;
 use table::Checked;
-use table::row_at;
 ghost use Prim.Native.Nat.{_≤_};
 ghost use lib.ListN.{length};
+ghost use Rattle.rules.specs.Reading.{longest};
 ghost use Rattle.table.specs.Judging.{Judges};
-ghost use Rattle.writer.specs.Passing.{Nested, Nests, Passed};
+ghost use Rattle.writer.specs.Passing.{BlocksAfter, Nests, PassWrites};
+ghost use Rattle.rows.specs.Rows.{deepest};
 
 // The blocks that are open after a row.
-fn nested(b: Blocks, row: Row) -> Blocks
-    requires { ⌜ b .depth ≤ 80 ⌝ }
-    ensures { λ r. ⌜ Nested b row r ⌝ }
+fn blocks_after(b: Blocks, row: Row) -> Blocks
+    requires { ⌜ b .depth ≤ deepest ⌝ }
+    ensures { λ r. ⌜ BlocksAfter b row r ⌝ }
 {
     match row {
         Row::Open(k, x, y) => {
-            if 80 <= b.depth {
+            if DEEPEST <= b.depth {
                 return b;
             }
-            if 65535 < x {
+            if LONGEST_LABEL < x {
                 return b;
             }
-            if 65535 < y {
+            if LONGEST_LABEL < y {
                 return b;
             }
             push(b, k, x, y)
@@ -54,8 +59,8 @@ fn nests(row: Row) -> bool
 
 // The rows are laid as far as the room reaches; the pass stops with the row that takes the count over 65,535. From and upto hold the innermost block's name.
 pub fn pass(label: &[u8], lent: &[u8], out: &mut [u8]) -> usize
-    requires { ⌜ (length (now label) ≤ 65535) × Judges (now label) (now lent) Checked.Proper ⌝ }
-    ensures { λ r. ⌜ Passed (now (label .entry)) (now (lent .entry)) (now (out .entry)) (now (out .exit)) r ⌝ }
+    requires { ⌜ (length (now label) ≤ longest) × Judges (now label) (now lent) Checked.Proper ⌝ }
+    ensures { λ r. ⌜ PassWrites (now (label .entry)) (now (lent .entry)) (now (out .entry)) (now (out .exit)) r ⌝ }
 {
     let mut q = Prior::Start;
     let mut b = no_blocks();
@@ -64,20 +69,22 @@ pub fn pass(label: &[u8], lent: &[u8], out: &mut [u8]) -> usize
     let mut at = 0;
     let mut n = 0;
     while at < lent.len() {
-        let g = row_at(lent, at);
-        let row = g.row;
+        // in a proper table there is a row
+        let Got::Found(row, next) = row_at(lent, at) else {
+            return n;
+        };
         let k = least(n, out.len());
         n += put_row(&mut out[k..], label, q, b.depth, from, upto, row);
-        if 65535 < n {
+        if LONGEST_LABEL < n {
             return n;
         }
-        q = prior_after(q, row);
-        at = g.next;
+        q = prior_of(row);
+        at = next;
         // only a row that opens or closes a block is worth a copy of the arrays
         if !nests(row) {
             continue;
         }
-        b = nested(b, row);
+        b = blocks_after(b, row);
         from = name_start(b);
         upto = name_end(b);
     }

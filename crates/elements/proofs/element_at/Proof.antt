@@ -2,7 +2,7 @@
 use borrow.Author.Needs.{needs}
 use Rattle.elements.proofs.element_at.Statement.{statement}
 use Rattle.elements.proofs.element_at.Tie as tie
-use Rattle.elements.proofs.Quotes.{one-sign, no-sign, star-byte, quote-byte, apostrophe-byte, lone-slash}
+use Rattle.elements.proofs.Signs.{one-sign, no-sign, star-byte, quote-byte, apostrophe-byte, lone-slash}
 use Rattle.elements.proofs.Words.{begins-word}
 use Rattle.elements.specs.Next.{is-over}
 

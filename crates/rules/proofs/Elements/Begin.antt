@@ -1,4 +1,4 @@
--- What a byte begins, as one function of the byte.
+-- What a byte begins tells the byte, and the byte tells what it begins.
 use Prim.Native.Nat.{ℕ, _≤_}
 use Prim.Native.Char.{code}
 use native.Mathlib.Omega.{arith}
@@ -13,47 +13,33 @@ use Rattle.rules.specs.Data.{Fixed, semicolon}
 use Rattle.rules.specs.Modes.{Mode}
 use Rattle.rules.specs.Elements.{isBlank, Entry, _⇒_, signs, look, signOf}
 use Rattle.rules.proofs.Tables.Tests.{or-case, between-out}
-
--- a word, a blank, a sign, `*`, `/`, `"`, `'`, or nothing
-pub data Begin : Type 0 where
-  a-word a-blank a-star a-slash a-quote an-apostrophe nothing : Begin
-  a-sign : Fixed → Begin
-
--- what is no sign by itself
-abbrev other : ℕ → Begin
-other b = cond (eqb b 42) a-star (cond (eqb b 47) a-slash (cond (eqb b 34) a-quote (cond (eqb b 39) an-apostrophe nothing)))
-
-abbrev orSign : Option Fixed → Begin → Begin
-orSign none x = x
-orSign (some f) x = a-sign f
-
-abbrev pub begin : Mode → ℕ → Begin
-begin m b = cond (wordByte b) a-word (cond (isBlank b) a-blank (orSign (signOf m b) (other b)))
+use Rattle.rules.proofs.Machine.Elements.{Begin, a-word, a-blank, a-star, a-slash, a-quote, an-apostrophe, no-start, a-sign, begin, other, orSign}
+use Rattle.rules.proofs.Options.{none-some}
 
 -- ---- what a byte begins tells the byte
 
-abbrev pub Starts : Mode → Begin → ℕ → Type 0
-Starts m a-word b = wordByte b ≡ true
-Starts m a-blank b = isBlank b ≡ true
-Starts m a-star b = b ≡ 42
-Starts m a-slash b = b ≡ 47
-Starts m a-quote b = b ≡ 34
-Starts m an-apostrophe b = b ≡ 39
-Starts m nothing b = (wordByte b ≡ false) × (isBlank b ≡ false) × (signOf m b ≡ none) × (among (ascii "*/\"'") b ≡ false)
-Starts m (a-sign f) b = signOf m b ≡ some f
+abbrev pub BeginsWith : Mode → Begin → ℕ → Type 0
+BeginsWith m a-word b = wordByte b ≡ true
+BeginsWith m a-blank b = isBlank b ≡ true
+BeginsWith m a-star b = b ≡ 42
+BeginsWith m a-slash b = b ≡ 47
+BeginsWith m a-quote b = b ≡ 34
+BeginsWith m an-apostrophe b = b ≡ 39
+BeginsWith m no-start b = (wordByte b ≡ false) × (isBlank b ≡ false) × (signOf m b ≡ none) × (among (ascii "*/\"'") b ≡ false)
+BeginsWith m (a-sign f) b = signOf m b ≡ some f
 
-pub starts : (m : Mode) (b : ℕ) → Starts m (begin m b) b
+pub starts : (m : Mode) (b : ℕ) → BeginsWith m (begin m b) b
 starts m b = by-word (wordByte b) refl (isBlank b) refl (signOf m b) refl
   where
     by-other : wordByte b ≡ false → isBlank b ≡ false → signOf m b ≡ none → (x y z w : Bool) → eqb b 42 ≡ x → eqb b 47 ≡ y → eqb b 34 ≡ z → eqb b 39 ≡ w →
-        Starts m (cond x a-star (cond y a-slash (cond z a-quote (cond w an-apostrophe nothing)))) b
+        BeginsWith m (cond x a-star (cond y a-slash (cond z a-quote (cond w an-apostrophe no-start)))) b
     by-other f g h true y z w i j k l = eqb-true b 42 i
     by-other f g h false true z w i j k l = eqb-true b 47 j
     by-other f g h false false true w i j k l = eqb-true b 34 k
     by-other f g h false false false true i j k l = eqb-true b 39 l
     by-other f g h false false false false i j k l = (f, g, h, rw (i, j, k, l))
 
-    by-word : (t : Bool) → wordByte b ≡ t → (u : Bool) → isBlank b ≡ u → (s : Option Fixed) → signOf m b ≡ s → Starts m (cond t a-word (cond u a-blank (orSign s (other b)))) b
+    by-word : (t : Bool) → wordByte b ≡ t → (u : Bool) → isBlank b ≡ u → (s : Option Fixed) → signOf m b ≡ s → BeginsWith m (cond t a-word (cond u a-blank (orSign s (other b)))) b
     by-word true f u g s h = f
     by-word false f true g s h = g
     by-word false f false g none h = by-other f g h (eqb b 42) (eqb b 47) (eqb b 34) (eqb b 39) refl refl refl refl
@@ -84,9 +70,6 @@ blank-no-word b h =
 pub blank-begins : (m : Mode) (b : ℕ) → isBlank b ≡ true → begin m b ≡ a-blank
 blank-begins m b h = rw (blank-no-word b h, h)
 
-none-some : {f : Fixed} → _≡_ {A = Option Fixed} none (some f) → ⊥
-none-some e = let z : _≡_ {A = ℕ} 0 1 = cc in omega arith
-
 -- each byte of the list is no byte of a word and no blank
 abbrev Apart : List Entry → Type 0
 Apart [] = Unit {0}
@@ -113,10 +96,10 @@ sign-apart m b {f} e = go (eqb b 59) refl (m .pvl) e
 pub sign-begins : (m : Mode) (b : ℕ) {f : Fixed} → signOf m b ≡ some f → begin m b ≡ a-sign f
 sign-begins m b h = let a = sign-apart m b h in rw (a .0, a .1, h)
 
-pub nothing-begins : (m : Mode) (b : ℕ) → Starts m nothing b → begin m b ≡ nothing
+pub nothing-begins : (m : Mode) (b : ℕ) → BeginsWith m no-start b → begin m b ≡ no-start
 nothing-begins m b (f, g, h, k) = rw (f, g, h) (go (eqb b 42) (eqb b 47) (eqb b 34) (eqb b 39) k)
   where
-    go : (x y z w : Bool) → (x || (y || (z || (w || false)))) ≡ false → cond x a-star (cond y a-slash (cond z a-quote (cond w an-apostrophe nothing))) ≡ nothing
+    go : (x y z w : Bool) → (x || (y || (z || (w || false)))) ≡ false → cond x a-star (cond y a-slash (cond z a-quote (cond w an-apostrophe no-start))) ≡ no-start
     go true y z w h = absurd (true≢false h)
     go false true z w h = absurd (true≢false h)
     go false false true w h = absurd (true≢false h)

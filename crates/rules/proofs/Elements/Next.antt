@@ -1,4 +1,4 @@
--- The next element, as a function.
+-- The next element is as the rules say, both ways.
 use Prim.Native.Nat.{ℕ, zero, suc, _<_}
 use native.Mathlib.Omega.{arith}
 use mathlib.Core.Bool.{true}
@@ -7,50 +7,21 @@ use mathlib.Core.List.{List, [], _∷_, _++_, append-assoc, append-nil}
 use lib.ListN.{length, length-append}
 use Rattle.rules.specs.Data.{Elem}
 use Rattle.rules.specs.Modes.{Mode}
-use Rattle.rules.specs.Elements.{isBlank, Comment, comment, Gap, no-gap, blank, remark, Spells, word, sign, one-star, two-stars, one-slash, quoted-text, quoted-symbol, Fault}
-use Rattle.rules.proofs.Elements.Pieces.{Piece, a-gap, an-element, a-fault, the-end, piece, PieceIs, is-blank, is-comment, is-element, is-fault, is-end, piece-sound, piece-complete}
-
--- an element, the bytes that its span leaves out, the gap before it, its bytes, and what follows; a fault and the gap before it; neither
-pub data Found : Type 0 where
-  found : Elem → ℕ → List ℕ → List ℕ → List ℕ → Found
-  faulty : ℕ → List ℕ → Found
-  none-left : Found
+use Rattle.rules.specs.Elements.{isBlank, Comment, comment, Gap, no-gap, blank, remark, Spells, word, sign, one-star, two-stars, one-slash, quoted-text, quoted-symbol}
+use Rattle.rules.proofs.Machine.Elements.{Piece, a-gap, piece}
+use Rattle.rules.proofs.Elements.Pieces.{PieceIs, is-blank, is-comment, is-element, is-fault, is-end, piece-sound, piece-complete}
+use Rattle.rules.proofs.Machine.Elements.{Ahead, comes, faulty, none-left, behind, onward, search-in, nextElement, NextIs, finds, faults, ends}
 
 -- what is found is one thing: the element, the bytes that its span leaves out, the gap, the element's bytes and what follows
-pub record SameFound (e e′ : Elem) (q q′ : ℕ) (g g′ w w′ r r′ : List ℕ) : Type 0 where
+pub record SameAhead (e e′ : Elem) (q q′ : ℕ) (g g′ w w′ r r′ : List ℕ) : Type 0 where
   pub elem : e ≡ e′
   pub left : q ≡ q′
   pub gap : g ≡ g′
   pub bytes : w ≡ w′
   pub rest : r ≡ r′
 
-pub same-found : {e e′ : Elem} {q q′ : ℕ} {g g′ w w′ r r′ : List ℕ} → found e q g w r ≡ found e′ q′ g′ w′ r′ → SameFound e e′ q q′ g g′ w w′ r r′
-same-found h = record { elem = cc; left = cc; gap = cc; bytes = cc; rest = cc }
-
-abbrev pub behind : List ℕ → Found → Found
-behind c (found e q g w r) = found e q (c ++ g) w r
-behind c (faulty k g) = faulty k (c ++ g)
-behind c none-left = none-left
-
-abbrev pub onward : Piece → (List ℕ → Found) → Found
-onward (a-gap c r) f = behind c (f r)
-onward (an-element e q w r) f = found e q [] w r
-onward (a-fault k) f = faulty k []
-onward the-end f = none-left
-
-abbrev pub search-in : Mode → ℕ → List ℕ → Found
-search-in m zero l = none-left
-search-in m (suc k) l = onward (piece m l) (search-in m k)
-
-abbrev pub nextElement : Mode → List ℕ → Found
-nextElement m l = search-in m (suc (length l)) l
-
--- ---- the same in the rules' terms
-
-pub data NextIs (m : Mode) : List ℕ → Found → Type 0 where
-  finds : {g w r : List ℕ} {e : Elem} {q : ℕ} → Gap m g (w ++ r) → Spells m w e q r → NextIs m (g ++ (w ++ r)) (found e q g w r)
-  faults : {g r : List ℕ} {c : ℕ} → Gap m g r → Fault m r c → NextIs m (g ++ r) (faulty c g)
-  ends : {l : List ℕ} → Gap m l [] → NextIs m l none-left
+pub same-ahead : {e e′ : Elem} {q q′ : ℕ} {g g′ w w′ r r′ : List ℕ} → comes e q g w r ≡ comes e′ q′ g′ w′ r′ → SameAhead e e′ q q′ g g′ w w′ r r′
+same-ahead h = record { elem = cc; left = cc; gap = cc; bytes = cc; rest = cc }
 
 comment-some : {c r : List ℕ} → Comment c r → 0 < length c
 comment-some (comment t u) = omega arith
@@ -65,13 +36,13 @@ spells-some (quoted-text h) = omega arith
 spells-some (quoted-symbol h k) = omega arith
 
 module _ (m : Mode) where
-  after-blank : {b : ℕ} {r : List ℕ} {f : Found} → isBlank b ≡ true → NextIs m r f → NextIs m (b ∷ r) (behind (b ∷ []) f)
+  after-blank : {b : ℕ} {r : List ℕ} {f : Ahead} → isBlank b ≡ true → NextIs m r f → NextIs m (b ∷ r) (behind (b ∷ []) f)
   after-blank h (finds g s) = finds (blank h g) s
   after-blank h (faults g s) = faults (blank h g) s
   after-blank h (ends g) = ends (blank h g)
 
-  after-comment : {c r : List ℕ} {f : Found} → Comment c r → NextIs m r f → NextIs m (c ++ r) (behind c f)
-  after-comment {c} k (finds {g} {w} {r} {e} {q} x s) = let n : NextIs m ((c ++ g) ++ (w ++ r)) (found e q (c ++ g) w r) = finds (remark k x) s in rw append-assoc at n
+  after-comment : {c r : List ℕ} {f : Ahead} → Comment c r → NextIs m r f → NextIs m (c ++ r) (behind c f)
+  after-comment {c} k (finds {g} {w} {r} {e} {q} x s) = let n : NextIs m ((c ++ g) ++ (w ++ r)) (comes e q (c ++ g) w r) = finds (remark k x) s in rw append-assoc at n
   after-comment {c} k (faults {g} {r} {c = i} x s) = let n : NextIs m ((c ++ g) ++ r) (faulty i (c ++ g)) = faults (remark k x) s in rw append-assoc at n
   after-comment {c} k (ends {l} x) = let k′ : Comment c (l ++ []) = simp append-nil k in ends (remark k′ x)
 
@@ -89,13 +60,13 @@ module _ (m : Mode) where
   pub next-sound : (l : List ℕ) → NextIs m l (nextElement m l)
   next-sound l = search-sound (suc (length l)) l (omega arith)
 
-  behind-nil : (f : Found) → f ≡ behind [] f
-  behind-nil (found e q g w r) = refl
+  behind-nil : (f : Ahead) → f ≡ behind [] f
+  behind-nil (comes e q g w r) = refl
   behind-nil (faulty k g) = refl
   behind-nil none-left = refl
 
-  behind-behind : (c g : List ℕ) (f : Found) → behind c (behind g f) ≡ behind (c ++ g) f
-  behind-behind c g (found e q x w r) = rw append-assoc
+  behind-behind : (c g : List ℕ) (f : Ahead) → behind c (behind g f) ≡ behind (c ++ g) f
+  behind-behind c g (comes e q x w r) = rw append-assoc
   behind-behind c g (faulty k x) = rw append-assoc
   behind-behind c g none-left = refl
 
@@ -118,10 +89,10 @@ module _ (m : Mode) where
   along (remark {c} {g} {r} h n) (suc k) l =
       further k (piece-complete m (is-comment h)) (along n k (omega (arith, comment-some h, length-append c (g ++ r), simp append-assoc at l)))
 
-  pub search-complete : {l : List ℕ} {f : Found} → NextIs m l f → (k : ℕ) → length l < k → search-in m k l ≡ f
+  pub search-complete : {l : List ℕ} {f : Ahead} → NextIs m l f → (k : ℕ) → length l < k → search-in m k l ≡ f
   search-complete (finds {g} {w} {r} {e} {q} x s) k h = let a = along x k h in a .2 ∙ go (a .0) (a .1)
     where
-      go : (k : ℕ) → length (w ++ r) < k → behind g (search-in m k (w ++ r)) ≡ found e q g w r
+      go : (k : ℕ) → length (w ++ r) < k → behind g (search-in m k (w ++ r)) ≡ comes e q g w r
       go zero h = absurd (omega arith)
       go (suc k) h = ap (λ (p : Piece). behind g (onward p (search-in m k))) (piece-complete m (is-element s)) ∙ rw append-nil
   search-complete (faults {g} {r} {c} x s) k h = let a = along x k h in a .2 ∙ go (a .0) (a .1)
@@ -135,5 +106,5 @@ module _ (m : Mode) where
       go zero h = absurd (omega arith)
       go (suc k) h = refl
 
-  pub next-complete : {l : List ℕ} {f : Found} → NextIs m l f → nextElement m l ≡ f
+  pub next-complete : {l : List ℕ} {f : Ahead} → NextIs m l f → nextElement m l ≡ f
   next-complete {l} n = search-complete n (suc (length l)) (omega arith)

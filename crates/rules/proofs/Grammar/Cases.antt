@@ -7,8 +7,8 @@ use mathlib.Core.List.{List, [], _∷_}
 use Rattle.rules.specs.Data.{Span, one, OBJECT, END-OBJECT, END-GROUP, BEGIN-GROUP, equals, comma, less, lpar, rpar, lbrace, rbrace, power, semicolon, name, the, end, integer, range, Placed, _on_, group, attribute, opened, closed, an-integer, sequence, sequence-end, set, set-end, last, outside}
 use Rattle.rules.specs.Grammar.{strict}
 use Rattle.rules.specs.Modes.{base, mended, PVL, ODL-1}
-use Rattle.rules.proofs.Grammar.Machine.{at-end, name-discrete}
-use Rattle.rules.proofs.Grammar.Run.{Outcome, ended, refused, reading}
+use Rattle.rules.proofs.Machine.Statements.{at-end, name-discrete}
+use Rattle.rules.proofs.Grammar.Run.{RunOutcome, ended, refused, reading}
 
 at : ℕ → Span
 at n = record { from = n; upto = n }
@@ -50,7 +50,7 @@ nested : ℕ → List Placed → List Placed
 nested zero xs = xs
 nested (suc n) xs = the OBJECT on at 0 ∷ the equals on at 0 ∷ name (88 ∷ []) on at 0 ∷ nested n xs
 
-code : Outcome → ℕ
+code : RunOutcome → ℕ
 code (ended q o rs) = 0
 code (refused c x) = c
 

@@ -3,11 +3,11 @@ use mathlib.Core.Path.{_≡_, refl, subst}
 use mathlib.Core.Bool.{Bool, true, false}
 use mathlib.Core.List.{List, [], _∷_}
 use Rattle.rules.specs.Data.{Span, Whole, Real, Moment, Name, Fixed, Fixed-discrete, name, the, end, integer, based, real, moment, range, text, symbol, Placed, _on_, an-integer, a-real, a-moment, a-text, a-symbol, Opens}
-use Rattle.rules.proofs.Grammar.Machine.{Place, at-number, Next, never, go, Entry, _⇒_, Offer, decided, find, dispatch, only, a-name, a-whole, a-statement, also, after, a-scalar, when}
+use Rattle.rules.proofs.Machine.Statements.{Place, at-number, Next, never, go, Entry, _⇒_, Offer, chosen, find, dispatch, only, a-name, a-whole, a-statement, also, after, a-scalar, when}
 
-pub decided-case : {P : Type 0} (d : Dec P) (a b : Next) (G : Next → Type 0) → (P → G a) → G b → G (decided d a b)
-decided-case (yes h) a b G f g = f h
-decided-case (no h) a b G f g = g
+pub chosen-case : {P A : Type 0} (d : Dec P) (a b : A) (G : A → Type 0) → (P → G a) → G b → G (chosen d a b)
+chosen-case (yes h) a b G f g = f h
+chosen-case (no h) a b G f g = g
 
 module _ (G : Placed → Next → Type 0) (no : (x : Placed) → G x (never)) where
   abbrev pub Entries : List Entry → Type 0
@@ -19,17 +19,17 @@ module _ (G : Placed → Next → Type 0) (no : (x : Placed) → G x (never)) wh
   entries-when true k n l h t = (h refl, t)
   entries-when false k n l h t = t
 
-  abbrev pub Each : Offer → Type 0
-  Each f = (x : Placed) → G x (dispatch f x)
+  abbrev pub EachAnswer : Offer → Type 0
+  EachAnswer f = (x : Placed) → G x (dispatch f x)
 
-  find-entry : (j k : Fixed) (p : Span) (n n′ : Next) → ((p : Span) → G (the j on p) n) → G (the k on p) n′ → G (the k on p) (decided (Fixed-discrete j k) n n′)
-  find-entry j k p n n′ f g = decided-case (Fixed-discrete j k) n n′ (G (the k on p)) (λ e. subst (λ (i : Fixed). G (the i on p) n) e (f p)) g
+  find-entry : (j k : Fixed) (p : Span) (n n′ : Next) → ((p : Span) → G (the j on p) n) → G (the k on p) n′ → G (the k on p) (chosen (Fixed-discrete j k) n n′)
+  find-entry j k p n n′ f g = chosen-case (Fixed-discrete j k) n n′ (G (the k on p)) (λ e. subst (λ (i : Fixed). G (the i on p) n) e (f p)) g
 
   find-each : (l : List Entry) → Entries l → (k : Fixed) (p : Span) → G (the k on p) (find l k)
   find-each [] h k p = no (the k on p)
   find-each (j ⇒ n ∷ l) h k p = find-entry j k p n (find l k) (h .0) (find-each l (h .1) k p)
 
-  pub each-only : (l : List Entry) → Entries l → Each (only l)
+  pub each-only : (l : List Entry) → Entries l → EachAnswer (only l)
   each-only l h (name n on p) = no (name n on p)
   each-only l h (the k on p) = find-each l h k p
   each-only l h (end b on p) = no (end b on p)
@@ -41,7 +41,7 @@ module _ (G : Placed → Next → Type 0) (no : (x : Placed) → G x (never)) wh
   each-only l h (text on p) = no (text on p)
   each-only l h (symbol on p) = no (symbol on p)
 
-  pub each-name : (f : Name → Span → Next) → ((n : Name) (p : Span) → G (name n on p) (f n p)) → Each (a-name f)
+  pub each-name : (f : Name → Span → Next) → ((n : Name) (p : Span) → G (name n on p) (f n p)) → EachAnswer (a-name f)
   each-name f h (name n on p) = h n p
   each-name f h (the k on p) = no (the k on p)
   each-name f h (end b on p) = no (end b on p)
@@ -53,7 +53,7 @@ module _ (G : Placed → Next → Type 0) (no : (x : Placed) → G x (never)) wh
   each-name f h (text on p) = no (text on p)
   each-name f h (symbol on p) = no (symbol on p)
 
-  pub each-whole : (f : Whole → Span → Next) → ((w : Whole) (p : Span) → G (integer w on p) (f w p)) → Each (a-whole f)
+  pub each-whole : (f : Whole → Span → Next) → ((w : Whole) (p : Span) → G (integer w on p) (f w p)) → EachAnswer (a-whole f)
   each-whole f h (name n on p) = no (name n on p)
   each-whole f h (the k on p) = no (the k on p)
   each-whole f h (end b on p) = no (end b on p)
@@ -66,7 +66,7 @@ module _ (G : Placed → Next → Type 0) (no : (x : Placed) → G x (never)) wh
   each-whole f h (symbol on p) = no (symbol on p)
 
   pub each-statement : (f : Name → Span → Next) (g : Bool → Span → Next) (l : List Entry) →
-      ((n : Name) (p : Span) → G (name n on p) (f n p)) → ((b : Bool) (p : Span) → G (end b on p) (g b p)) → Entries l → Each (a-statement f g l)
+      ((n : Name) (p : Span) → G (name n on p) (f n p)) → ((b : Bool) (p : Span) → G (end b on p) (g b p)) → Entries l → EachAnswer (a-statement f g l)
   each-statement f g l hf hg hl (name n on p) = hf n p
   each-statement f g l hf hg hl (the k on p) = find-each l hl k p
   each-statement f g l hf hg hl (end b on p) = hg b p
@@ -78,7 +78,7 @@ module _ (G : Placed → Next → Type 0) (no : (x : Placed) → G x (never)) wh
   each-statement f g l hf hg hl (text on p) = no (text on p)
   each-statement f g l hf hg hl (symbol on p) = no (symbol on p)
 
-  pub each-also : (j : Fixed) (n : Next) (f : Offer) → ((p : Span) → G (the j on p) n) → Each f → Each (also (j ⇒ n) f)
+  pub each-also : (j : Fixed) (n : Next) (f : Offer) → ((p : Span) → G (the j on p) n) → EachAnswer f → EachAnswer (also (j ⇒ n) f)
   each-also j n′ f h g (name n on p) = g (name n on p)
   each-also j n′ f h g (the k on p) = find-entry j k p n′ (find (f .fixed) k) h (g (the k on p))
   each-also j n′ f h g (end b on p) = g (end b on p)
@@ -96,7 +96,7 @@ module _ (G : Placed → Next → Type 0) (no : (x : Placed) → G x (never)) wh
       ((w : Whole) (p : Span) → G (based w on p) (go (at-number c) o (an-integer w ∷ []))) → ((x : Real) (p : Span) → G (real x on p) (go (at-number c) o (a-real x ∷ []))) →
       ((t : Moment) (p : Span) → G (moment t on p) (go (after c) o (a-moment t ∷ []))) →
       ((lo hi : Whole) (p : Span) → G (range lo hi on p) (f lo hi)) → ((p : Span) → G (text on p) (go (after c) o (a-text p ∷ []))) →
-      ((p : Span) → G (symbol on p) (go (after c) o (a-symbol p ∷ []))) → Entries l → Each (a-scalar c o f l)
+      ((p : Span) → G (symbol on p) (go (after c) o (a-symbol p ∷ []))) → Entries l → EachAnswer (a-scalar c o f l)
   each-scalar c o f l hn hw hb hr hm hg ht hs hl (name n on p) = hn n p
   each-scalar c o f l hn hw hb hr hm hg ht hs hl (the k on p) = find-each l hl k p
   each-scalar c o f l hn hw hb hr hm hg ht hs hl (end b on p) = no (end b on p)

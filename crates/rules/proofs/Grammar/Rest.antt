@@ -6,7 +6,7 @@ use mathlib.Core.List.{List, [], _∷_, _++_}
 use Rattle.rules.specs.Data.{Span, Whole, Name, equals, greater, rpar, rbrace, name, the, end, integer, range, Placed, _on_, Kind, closer, Op, Row, pointer, opened, closed, an-integer, a-unit, sequence, sequence-end, set-end, last, Opens, outside, inside, depth}
 use Rattle.rules.specs.Grammar.{Strictness, Kept, Exponent, Factor, Factors, Units, Scalar, Scalars, Sequence1, Rows, Sequence, Set, Value, Closing, Semicolon, Statements}
 use Rattle.rules.specs.Modes.{Mode}
-use Rattle.rules.proofs.Grammar.Machine.{Group, in-sequence, in-row, in-set, Place, alone, within, Else, any-value, a-row, a-set-end, State, at-statement, at-semicolon, at-equals, at-pointer, at-opener, at-opened, at-closer, at-closed, at-scalar, at-number, at-member, at-row, at-next-row, at-unit, at-power, at-exponent, at-factor, at-end}
+use Rattle.rules.proofs.Machine.Statements.{Group, in-sequence, in-row, in-set, Place, alone, within, Else, any-value, a-row, a-set-end, State, at-statement, at-semicolon, at-equals, at-pointer, at-opener, at-opened, at-closer, at-closed, at-scalar, at-number, at-member, at-row, at-next-row, at-unit, at-power, at-exponent, at-factor, at-end}
 
 module _ (m : Mode) (s : Strictness) where
   -- after a whole statement, with these blocks open: statements, and the end of each block and of the label

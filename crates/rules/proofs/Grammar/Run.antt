@@ -5,7 +5,7 @@ use mathlib.Core.List.{List, [], _∷_, _++_, append-assoc}
 use Rattle.rules.specs.Data.{Placed, Row, Opens, outside}
 use Rattle.rules.specs.Grammar.{Strictness}
 use Rattle.rules.specs.Modes.{Mode}
-use Rattle.rules.proofs.Grammar.Machine.{State, at-statement, at-end, Answer, refuses, goes, step}
+use Rattle.rules.proofs.Machine.Statements.{State, at-statement, at-end, Answer, refuses, goes, step}
 
 module _ (m : Mode) (s : Strictness) where
   -- from a state, over these elements, to a state, with these rows
@@ -21,32 +21,32 @@ module _ (m : Mode) (s : Strictness) where
 -- ---- the same as a function
 
 -- how a run ends: all elements taken, or one refused, with its code
-pub data Outcome : Type 0 where
-  ended : State → Opens → List Row → Outcome
-  refused : ℕ → Placed → Outcome
+pub data RunOutcome : Type 0 where
+  ended : State → Opens → List Row → RunOutcome
+  refused : ℕ → Placed → RunOutcome
 
-abbrev pub prepend : List Row → Outcome → Outcome
+abbrev pub prepend : List Row → RunOutcome → RunOutcome
 prepend r (ended q o rs) = ended q o (r ++ rs)
 prepend r (refused c x) = refused c x
 
-abbrev pub carry : Answer → Placed → (State → Opens → Outcome) → Outcome
+abbrev pub carry : Answer → Placed → (State → Opens → RunOutcome) → RunOutcome
 carry (refuses c) x f = refused c x
 carry (goes q o r) x f = prepend r (f q o)
 
 module _ (m : Mode) (s : Strictness) where
-  abbrev pub run : State → Opens → List Placed → Outcome
+  abbrev pub run : State → Opens → List Placed → RunOutcome
   run q o [] = ended q o []
   run q o (x ∷ xs) = carry (step m s q o x) x (λ q′ o′. run q′ o′ xs)
 
   -- from the start
-  abbrev pub reading : List Placed → Outcome
+  abbrev pub reading : List Placed → RunOutcome
   reading xs = run at-statement outside xs
 
-  prepend-nil : (z : Outcome) → prepend [] z ≡ z
+  prepend-nil : (z : RunOutcome) → prepend [] z ≡ z
   prepend-nil (ended q o qs) = refl
   prepend-nil (refused c x) = refl
 
-  prepend-append : (r rs : List Row) (z : Outcome) → prepend r (prepend rs z) ≡ prepend (r ++ rs) z
+  prepend-append : (r rs : List Row) (z : RunOutcome) → prepend r (prepend rs z) ≡ prepend (r ++ rs) z
   prepend-append r rs (ended q o qs) = ap (ended q o) (sym (append-assoc r rs qs))
   prepend-append r rs (refused c x) = refl
 
@@ -57,12 +57,12 @@ module _ (m : Mode) (s : Strictness) where
       ap (λ (a : Answer). carry a x (λ q′ o′. run q′ o′ (xs ++ ys))) e ∙ ap (prepend r) (reach-run t ys) ∙ prepend-append r rs (run q₂ o₂ ys)
 
   -- how a run went
-  pub data Trace : State → Opens → List Placed → Outcome → Type 0 where
+  pub data Trace : State → Opens → List Placed → RunOutcome → Type 0 where
     all-taken : {q q′ : State} {o o′ : Opens} {xs : List Placed} {rs : List Row} → Reach m s q o xs q′ o′ rs → Trace q o xs (ended q′ o′ rs)
     some-refused : {q q′ : State} {o o′ : Opens} {xs : List Placed} {rs : List Row} {x : Placed} (ys : List Placed) {c : ℕ} →
         Reach m s q o xs q′ o′ rs → step m s q′ o′ x ≡ refuses c → Trace q o (xs ++ (x ∷ ys)) (refused c x)
 
-  longer : {q q′ : State} {o o′ : Opens} {x : Placed} {xs : List Placed} {r : List Row} {z : Outcome} → step m s q o x ≡ goes q′ o′ r →
+  longer : {q q′ : State} {o o′ : Opens} {x : Placed} {xs : List Placed} {r : List Row} {z : RunOutcome} → step m s q o x ≡ goes q′ o′ r →
       Trace q′ o′ xs z → Trace q o (x ∷ xs) (prepend r z)
   longer e (all-taken t) = all-taken (by-step e t)
   longer e (some-refused ys t f) = some-refused ys (by-step e t) f

@@ -7,8 +7,8 @@ use mathlib.Core.List.{List, [], _∷_, _++_, append-assoc}
 use Rattle.rules.specs.Data.{Span, Whole, one, Name, Fixed, BEGIN-OBJECT, BEGIN-GROUP, equals, comma, star, slash, caret, less, greater, lpar, rpar, lbrace, rbrace, semicolon, name, the, end, integer, based, real, moment, range, text, symbol, Placed, _on_, Kind, closer, Op, first, times, divided, Row, attribute, pointer, opened, closed, an-integer, a-real, a-moment, a-text, a-symbol, a-unit, sequence, sequence-end, set, set-end, last, Opens, outside, inside, depth}
 use Rattle.rules.specs.Grammar.{Strictness, strict, relaxed, Kept, ExpOp, two-stars, one-caret, unwritten, written, Factor, factor, no-factor, by-times, by-divided, Units, no-units, units, Scalar, integer-value, based-value, real-value, date-time-value, text-value, symbol-value, identifier-value, Apart, comma-apart, beside, no-scalar, and-scalar, Sequence1, sequence-1D, Between, side-by-side, by-comma, no-row, and-row, one-dimension, sequence-2D, set-of, empty-set, scalar-value, sequence-value, set-value, range-value, unnamed, named, no-semicolon, a-semicolon, Opening, by-word, by-begin, no-statement, and-statement, Statement, assignment, pointing, block}
 use Rattle.rules.specs.Modes.{Mode}
-use Rattle.rules.proofs.Grammar.Machine.{Group, in-sequence, in-row, in-set, Place, alone, within, Else, no-else, any-value, a-row, a-set-end, State, at-statement, at-semicolon, at-equals, at-pointer, at-opener, at-opened, at-closer, at-closed, at-scalar, at-number, at-member, at-row, at-next-row, at-unit, at-power, at-exponent, at-factor, at-end, Next, never, go, Answer, refuses, goes, judge, Entry, _⇒_, Offer, dispatch, limit, after, a-scalar, name-discrete, else, else-range, factors, member, members, rows, openings, statements, after-statement, follows, offers, step}
-use Rattle.rules.proofs.Grammar.Each.{Entries, entries-when, Each, each-only, each-name, each-whole, each-statement, each-also, each-scalar}
+use Rattle.rules.proofs.Machine.Statements.{Group, in-sequence, in-row, in-set, Place, alone, within, Else, no-else, any-value, a-row, a-set-end, State, at-statement, at-semicolon, at-equals, at-pointer, at-opener, at-opened, at-closer, at-closed, at-scalar, at-number, at-member, at-row, at-next-row, at-unit, at-power, at-exponent, at-factor, at-end, Next, never, go, Answer, refuses, goes, judge, Entry, _⇒_, Offer, dispatch, limit, after, a-scalar, name-discrete, else, else-range, factors, member, members, rows, openings, statements, after-statement, follows, offers, step}
+use Rattle.rules.proofs.Grammar.Each.{Entries, entries-when, EachAnswer, each-only, each-name, each-whole, each-statement, each-also, each-scalar}
 use Rattle.rules.proofs.Grammar.Rest.{Tail, tail-label, tail-block, ended-by, RowsRest, rows-rest, ending-sequence, ending-row, ending-set, After, after-alone, after-within, FactorsRest, factors-rest, other-sequence, other-set, other-row, other-range, other-end, Rest, r-statement, r-semicolon, r-equals, r-pointer, r-opener, r-opened, r-closer, r-closed, r-scalar, r-other, r-number, r-member, r-row, r-next-row, r-unit, r-power, r-exponent, r-factor, r-end}
 
 pub keep : (s : Strictness) {P : Type 0} → P → Kept s P
@@ -196,7 +196,7 @@ module _ (m : Mode) (s : Strictness) where
   AllGood q o l = Entries (Good q o) (λ x. tt) l
 
   abbrev Sound : State → Opens → Offer → Type 0
-  Sound q o f = Each (Good q o) (λ x. tt) f
+  Sound q o f = EachAnswer (Good q o) (λ x. tt) f
 
   -- what is sound in one state is sound in another where as much may come
   good-wider : (q q′ : State) (o : Opens) (x : Placed) → ((ys : List Placed) (qs : List Row) → Rest m s q o ys qs → Rest m s q′ o ys qs) →

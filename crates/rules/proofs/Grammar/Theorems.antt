@@ -12,10 +12,10 @@ use Rattle.rules.specs.Data.{Span, Whole, one, Fixed, OBJECT, GROUP, BEG
 use Rattle.rules.specs.Grammar.{Strictness, strict, relaxed, unwritten, factor, no-factor, no-units, text-value, no-scalar, sequence-1D, no-row, scalar-value, unnamed, no-semicolon, no-statement, Label, label}
 use Rattle.rules.specs.Modes.{Mode}
 use Rattle.rules.specs.Faults.{Viable, PastLimit, exponent-past, name-differs, too-deep, begun-too-deep, not-set-off, Code, cannot-stand, past-limit, Refused, Early}
-use Rattle.rules.proofs.Grammar.Machine.{Group, in-sequence, in-row, in-set, Place, alone, within, Else, no-else, any-value, a-row, a-set-end, State, at-statement, at-semicolon, at-equals, at-pointer, at-opener, at-opened, at-closer, at-closed, at-scalar, at-number, at-member, at-row, at-next-row, at-unit, at-power, at-exponent, at-factor, at-end, Next, never, go, past, Answer, refuses, goes, judge, Entry, dispatch, limit, after, a-scalar, name-discrete, else, else-range, powers, member, members, rows, openings, statements, after-statement, follows, offers, step}
-use Rattle.rules.proofs.Grammar.Each.{Entries, entries-when, Each, each-only, each-name, each-whole, each-statement, each-also, each-scalar}
+use Rattle.rules.proofs.Machine.Statements.{Group, in-sequence, in-row, in-set, Place, alone, within, Else, no-else, any-value, a-row, a-set-end, State, at-statement, at-semicolon, at-equals, at-pointer, at-opener, at-opened, at-closer, at-closed, at-scalar, at-number, at-member, at-row, at-next-row, at-unit, at-power, at-exponent, at-factor, at-end, Next, never, go, past, Answer, refuses, goes, judge, Entry, dispatch, limit, a-scalar, name-discrete, else, else-range, powers, member, members, rows, openings, statements, after-statement, follows, offers, step}
+use Rattle.rules.proofs.Grammar.Each.{Entries, entries-when, EachAnswer, each-only, each-name, each-whole, each-statement, each-also, each-scalar}
 use Rattle.rules.proofs.Grammar.Rest.{Tail, tail-label, tail-block, Ended, ended-by, RowsRest, rows-rest, Ending, ending-sequence, ending-row, ending-set, After, after-alone, after-within, FactorsRest, factors-rest, Rest, r-statement, r-semicolon, r-equals, r-pointer, r-opener, r-opened, r-closer, r-closed, r-scalar, r-number, r-member, r-row, r-next-row, r-unit, r-power, r-exponent, r-factor, r-end}
-use Rattle.rules.proofs.Grammar.Run.{Reach, here, by-step, Accepts, Outcome, ended, refused, prepend, carry, run, reading, reach-run, Trace, all-taken, some-refused, trace}
+use Rattle.rules.proofs.Grammar.Run.{Reach, here, by-step, Accepts, RunOutcome, ended, refused, prepend, carry, run, reading, reach-run, Trace, all-taken, some-refused, trace}
 use Rattle.rules.proofs.Grammar.Sound.{keep, sound-step}
 use Rattle.rules.proofs.Grammar.Complete.{complete, refuses-goes}
 
@@ -181,12 +181,12 @@ module _ (m : Mode) where
   )
   limited-openings false o = (λ p. tt, (limited-opens OBJECT object o (too-deep object), (limited-opens GROUP group o (too-deep group), tt)))
 
-  limited-statements : (v : Bool) (o : Opens) → Each Limited unlimited (statements v o)
+  limited-statements : (v : Bool) (o : Opens) → EachAnswer Limited unlimited (statements v o)
   limited-statements v outside =
       each-statement Limited unlimited _ _ _ (λ n p. tt) (λ b p. limited (Bool-discrete b true) (end b) p 9 _ _ _ not-set-off) (limited-openings v outside)
   limited-statements v (inside k n o) = each-statement Limited unlimited _ _ _ (λ n p. tt) (λ b p. tt) (λ p. tt, limited-openings v (inside k n o))
 
-  limited-ended : (v : Bool) (o : Opens) → Each Limited unlimited (after-statement v o)
+  limited-ended : (v : Bool) (o : Opens) → EachAnswer Limited unlimited (after-statement v o)
   limited-ended true o = each-also Limited unlimited _ _ _ (λ p. tt) (limited-statements true o)
   limited-ended false o = limited-statements false o
 
@@ -196,14 +196,14 @@ module _ (m : Mode) where
   limited-member in-set o = (λ p. tt, (λ p. tt, tt))
 
   limited-scalar : (c : Place) (o : Opens) (f : Whole → Whole → Next) (l : List Entry) → ((lo hi : Whole) (p : Span) → Limited (range lo hi on p) (f lo hi)) →
-      Entries Limited unlimited l → Each Limited unlimited (a-scalar c o f l)
+      Entries Limited unlimited l → EachAnswer Limited unlimited (a-scalar c o f l)
   limited-scalar c o f l h t = each-scalar Limited unlimited c o f l (λ n p. tt) (λ w p. tt) (λ w p. tt) (λ x p. tt) (λ t p. tt) h (λ p. tt) (λ p. tt) t
 
-  limited-members : (v : Bool) (g : Group) (o : Opens) → Each Limited unlimited (members v g o)
+  limited-members : (v : Bool) (g : Group) (o : Opens) → EachAnswer Limited unlimited (members v g o)
   limited-members true g o = limited-scalar (within g) o _ _ (λ lo hi p. tt) (limited-member g o)
   limited-members false g o = each-only Limited unlimited _ (limited-member g o)
 
-  limited-follows : (c : Place) (o : Opens) → Each Limited unlimited (follows m c o)
+  limited-follows : (c : Place) (o : Opens) → EachAnswer Limited unlimited (follows m c o)
   limited-follows alone o = limited-ended (m .pvl) o
   limited-follows (within g) o = limited-members (m .members-beside) g o
 
@@ -226,7 +226,7 @@ module _ (m : Mode) where
   limited-powers : (v : Bool) (c : Place) (op : Op) (p : Span) (o : Opens) → Entries Limited unlimited (powers v c op p o)
   limited-powers v c op p o = (λ q. tt, entries-when Limited unlimited v caret _ _ (λ h q. tt) (λ q. tt, (λ q. tt, (λ q. tt, tt))))
 
-  limited-offers : (q : State) (o : Opens) → Each Limited unlimited (offers m q o)
+  limited-offers : (q : State) (o : Opens) → EachAnswer Limited unlimited (offers m q o)
   limited-offers at-statement o = limited-statements (m .pvl) o
   limited-offers at-semicolon o = limited-ended (m .pvl) o
   limited-offers at-equals o = each-only Limited unlimited _ (λ p. tt, tt)
@@ -302,7 +302,7 @@ module _ (m : Mode) where
   same-code (past-limit v l) (past-limit v′ l′) = one-limit l ∙ sym (one-limit l′)
 
   -- a beginning of a label is not refused
-  pub viable→taken : {es : List Placed} {y : Outcome} → Trace m strict at-statement outside es y → Viable m strict es →
+  pub viable→taken : {es : List Placed} {y : RunOutcome} → Trace m strict at-statement outside es y → Viable m strict es →
       (q : State) × (o : Opens) × (rs : List Row) × Reach m strict at-statement outside es q o rs
   viable→taken (all-taken t) v = (_, _, _, t)
   viable→taken (some-refused {x = x} ys t e) v =

@@ -12,13 +12,15 @@ use Rattle.rules.specs.Bytes.{between, lower, letter, fold, wordByte, fr
 use Rattle.rules.specs.Data.{Fixed, Elem, name, the, end, integer, based, real, moment, range, text, symbol}
 use Rattle.rules.specs.Modes.{Mode}
 use Rattle.rules.specs.Values.{Written, an-identifier, named, value}
-use Rattle.rules.specs.Words.{in-radix, pointed, bare, upper-T, lower-t, from-to, Shape, identifier-word, integer-word, based-word, real-word, date-word, time-word, date-time-word, range-word, Form}
+use Rattle.rules.specs.Words.{in-radix, pointed, bare, upper-T, lower-t, from-to, Shape, identifier-word, integer-word, based-word, real-word, date-word, time-word, date-time-word, range-word, Form, isIdentifier}
 use Rattle.rules.specs.Elements.{signOf, inSymbol, inWord, setsOff, Spells, word, sign, one-star, two-stars, one-slash, quoted-text, quoted-symbol, Fault, no-form, past-limit, empty-symbol, long-symbol}
 use Rattle.rules.specs.SameElements.{OneElement, spelled, any-word, any-symbol, isEND}
-use Rattle.rules.proofs.Words.Identifiers.{isIdentifier, identifier-pass}
+use Rattle.rules.proofs.Words.Identifiers.{identifier-pass}
 use Rattle.rules.proofs.Words.Runs.{run-all, run-stops, all-run}
-use Rattle.rules.proofs.Elements.Begin.{Begin, a-word, a-blank, a-star, a-slash, a-quote, an-apostrophe, nothing, a-sign, begin, sign-begins}
-use Rattle.rules.proofs.Elements.Pieces.{sized-kept, Verdict, is, over, formless, classify, Classified, classified}
+use Rattle.rules.proofs.Machine.Elements.{Begin, a-word, a-blank, a-star, a-slash, a-quote, an-apostrophe, no-start, a-sign, begin}
+use Rattle.rules.proofs.Elements.Begin.{sign-begins}
+use Rattle.rules.proofs.Elements.Pieces.{sized-kept, classified}
+use Rattle.rules.proofs.Machine.Words.{WordVerdict, is, over, formless, classify, Classified}
 use Rattle.rules.proofs.Tables.Tests.{and-left, and-right, or-second}
 use Rattle.rules.proofs.Reading.StepTwice.{ending}
 use Rattle.rules.proofs.Reading.EndWord.{end-form-word}
@@ -73,14 +75,14 @@ IsSign a-star = ⊥
 IsSign a-slash = ⊥
 IsSign a-quote = ⊥
 IsSign an-apostrophe = ⊥
-IsSign nothing = ⊥
+IsSign no-start = ⊥
 IsSign (a-sign f) = Unit {0}
 
 word-no-sign : (m : Mode) (b : ℕ) {f : Fixed} → wordByte b ≡ true → signOf m b ≡ some f → ⊥
 word-no-sign m b h k = let z : begin m b ≡ a-word = rw h in subst IsSign (sym (sign-begins m b k) ∙ z) tt
 
 -- a word begins with a byte of words
-pub begins-word : {b : ℕ} {w r : List ℕ} → Run inWord (b ∷ w) r → wordByte b ≡ true
+begins-word : {b : ℕ} {w r : List ℕ} → Run inWord (b ∷ w) r → wordByte b ≡ true
 begins-word (goes-on h t) = h
 
 module _ {m : Mode} where
@@ -112,7 +114,7 @@ module _ {m : Mode} where
   slash-ends (spelled (one-slash k)) = k
   slash-ends (any-word (goes-on h t)) = absurd (false≢true h)
 
-  classed-both : {b : ℕ} {w r r′ : List ℕ} → Run inWord (b ∷ w) r → Run inWord (b ∷ w) r′ → isEND (b ∷ w) ≡ false → (v : Verdict) → Classified m (setsOff m r) (b ∷ w) v → Both m (b ∷ w) r r′
+  classed-both : {b : ℕ} {w r r′ : List ℕ} → Run inWord (b ∷ w) r → Run inWord (b ∷ w) r′ → isEND (b ∷ w) ≡ false → (v : WordVerdict) → Classified m (setsOff m r) (b ∷ w) v → Both m (b ∷ w) r r′
   classed-both {r = r} {r′ = r′} t t′ h (is e) f = both-spelled (word t f) (word t′ (f .0, f .1, value-any (f .1) h (setsOff m r′) (setsOff m r) ∙ f .2))
   classed-both {r = r} {r′ = r′} t t′ h over f = both-faulty (past-limit t f) (past-limit t′ (f .0, f .1, value-any (f .1) h (setsOff m r′) (setsOff m r) ∙ f .2)) (omega arith)
   classed-both t t′ h formless f = both-faulty (no-form t f) (no-form t′ f) (omega arith)

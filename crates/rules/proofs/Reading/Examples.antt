@@ -6,8 +6,9 @@ use Rattle.rules.specs.Bytes.{ascii}
 use Rattle.rules.specs.Modes.{base}
 use Rattle.rules.specs.Reading.{Reads}
 use Rattle.rules.specs.Examples.{Example, examples, Hold}
-use Rattle.rules.proofs.Grammar.Machine.{name-discrete}
-use Rattle.rules.proofs.Reading.Reader.{reader, reads-sound}
+use Rattle.rules.proofs.Machine.Statements.{name-discrete}
+use Rattle.rules.proofs.Machine.Labels.{reader}
+use Rattle.rules.proofs.Reading.Reader.{reads-sound}
 
 -- the reading gives the results
 abbrev Agree : List Example → Type 0

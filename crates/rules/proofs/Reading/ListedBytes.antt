@@ -9,7 +9,7 @@ use lib.ListN.{length, length-append}
 use Rattle.rules.specs.Modes.{Mode}
 use Rattle.rules.specs.Elements.{setsOff}
 use Rattle.rules.specs.SameElements.{OneElement, isEND, Through, first-END, no-END, Listed, to-the-end, through-END, and-then}
-use Rattle.rules.proofs.Reading.SameElements.{From, from-start, onward}
+use Rattle.rules.proofs.Reading.SameElements.{FromOffset, from-start, onward}
 
 -- the elements of a label by the bytes before each
 pub data OwnBytes (m : Mode) (l : List ℕ) : List (List ℕ) → List ℕ → Through → Type 0 where
@@ -20,10 +20,10 @@ pub data OwnBytes (m : Mode) (l : List ℕ) : List (List ℕ) → List ℕ → T
 
 module _ (m : Mode) (l : List ℕ) where
   -- behind a gap
-  past-gap : {i : ℕ} (g : List ℕ) {r : List ℕ} → From l i (g ++ r) → From l (i + length g) r
+  past-gap : {i : ℕ} (g : List ℕ) {r : List ℕ} → FromOffset l i (g ++ r) → FromOffset l (i + length g) r
   past-gap g f = record { before = f .before ++ g; is = simp append-assoc (f .is); size = omega (arith, f .size, length-append (f .before) g) }
 
-  own : {i : ℕ} {r ps : List ℕ} {ws : List (List ℕ)} {t : Through} → From l i r → Listed m i r ws ps t → OwnBytes m l ws ps t
+  own : {i : ℕ} {r ps : List ℕ} {ws : List (List ℕ)} {t : Through} → FromOffset l i r → Listed m i r ws ps t → OwnBytes m l ws ps t
   own f (to-the-end g) = no-more
   own f (through-END {g = g} {w = w} {r = r} x s h e) =
       let b = past-gap g f in

@@ -13,25 +13,28 @@ use Rattle.rules.specs.Modes.{Mode}
 use Rattle.rules.specs.Data.{Elem}
 use Rattle.rules.specs.Elements.{setsOff, inText, inSymbol, inWord, Gap, Spells, word, sign, one-star, two-stars, one-slash, quoted-text, quoted-symbol, Fault}
 use Rattle.rules.specs.SameElements.{OneElement, spelled, any-word, any-symbol, isEND, Through, first-END, Listed, to-the-end, through-END, and-then, FaultOutside, fault-here, fault-later}
-use Rattle.rules.proofs.Words.Runs.{Split, span, run-span, tail}
-use Rattle.rules.proofs.Elements.Begin.{Begin, a-word, a-blank, a-star, a-slash, a-quote, an-apostrophe, nothing, a-sign, begin, sign-begins}
-use Rattle.rules.proofs.Elements.Next.{Found, found, faulty, none-left, nextElement, finds, faults, ends, next-complete}
+use Rattle.rules.proofs.Machine.Splits.{Split, splitRun, behind-first}
+use Rattle.rules.proofs.Words.Runs.{run-split}
+use Rattle.rules.proofs.Machine.Elements.{Begin, a-word, a-blank, a-star, a-slash, a-quote, an-apostrophe, no-start, a-sign, begin, Ahead, comes, faulty, none-left, nextElement, finds, faults, ends}
+use Rattle.rules.proofs.Elements.Begin.{sign-begins}
+use Rattle.rules.proofs.Elements.Pieces.{begin-word}
+use Rattle.rules.proofs.Elements.Next.{next-complete}
 use Rattle.rules.proofs.Reading.ElementTwice as Twice
 use Rattle.rules.proofs.Reading.Listing.{Cover, listed, spoilt, cover}
 
 -- ---- the element at the front of the bytes, and what is behind it, as a function
 
 abbrev closed : ℕ → Split → Split
-closed b s = (b ∷ (s .0 ++ b ∷ []), tail (s .1))
+closed b s = (b ∷ (s .0 ++ b ∷ []), behind-first (s .1))
 
 abbrev frontOf : Begin → ℕ → List ℕ → Split
-frontOf a-word b l = span inWord (b ∷ l)
+frontOf a-word b l = splitRun inWord (b ∷ l)
 frontOf a-blank b l = ([], b ∷ l)
-frontOf a-star b l = cond (front (λ c. eqb c 42) l) (42 ∷ 42 ∷ [], tail l) (42 ∷ [], l)
+frontOf a-star b l = cond (front (λ c. eqb c 42) l) (42 ∷ 42 ∷ [], behind-first l) (42 ∷ [], l)
 frontOf a-slash b l = (47 ∷ [], l)
-frontOf a-quote b l = closed 34 (span inText l)
-frontOf an-apostrophe b l = closed 39 (span inSymbol l)
-frontOf nothing b l = ([], b ∷ l)
+frontOf a-quote b l = closed 34 (splitRun inText l)
+frontOf an-apostrophe b l = closed 39 (splitRun inSymbol l)
+frontOf no-start b l = ([], b ∷ l)
 frontOf (a-sign f) b l = (b ∷ [], l)
 
 abbrev frontAt : Mode → List ℕ → Split
@@ -39,14 +42,14 @@ frontAt m [] = ([], [])
 frontAt m (b ∷ l) = frontOf (begin m b) b l
 
 -- the gap before what is found
-abbrev gapOf : Found → Option (List ℕ)
-gapOf (found e q g w r) = some g
+abbrev gapOf : Ahead → Option (List ℕ)
+gapOf (comes e q g w r) = some g
 gapOf (faulty c g) = some g
 gapOf none-left = none
 
 -- a fault, if it is one, has no code of 2 or 3
-abbrev Sound : Found → Type 0
-Sound (found e q g w r) = Unit {0}
+abbrev Sound : Ahead → Type 0
+Sound (comes e q g w r) = Unit {0}
 Sound (faulty c g) = 4 ≤ c
 Sound none-left = Unit {0}
 
@@ -55,14 +58,11 @@ abbrev pub HasList : Mode → List ℕ → Type 0
 HasList m l = (ws : List (List ℕ)) × (ps : List ℕ) × (t : Through) × Listed m 0 l ws ps t
 
 module _ (m : Mode) where
-  word-begins : {b : ℕ} {w r : List ℕ} → Run inWord (b ∷ w) r → begin m b ≡ a-word
-  word-begins t = rw (Twice.begins-word t)
-
   word-front : {b : ℕ} {w r : List ℕ} → Run inWord (b ∷ w) r → frontAt m ((b ∷ w) ++ r) ≡ (b ∷ w, r)
-  word-front {b} {w} {r} t = ap (λ (x : Begin). frontOf x b (w ++ r)) (word-begins t) ∙ run-span t
+  word-front {b} {w} {r} t = ap (λ (x : Begin). frontOf x b (w ++ r)) (begin-word m t) ∙ run-split t
 
   symbol-front : {t r : List ℕ} → Run inSymbol t (39 ∷ r) → frontAt m ((39 ∷ (t ++ 39 ∷ [])) ++ r) ≡ (39 ∷ (t ++ 39 ∷ []), r)
-  symbol-front h = simp append-assoc (ap (closed 39) (run-span h))
+  symbol-front h = simp append-assoc (ap (closed 39) (run-split h))
 
   spelled-front : {w r : List ℕ} {e : Elem} {q : ℕ} → Spells m w e q r → frontAt m (w ++ r) ≡ (w, r)
   spelled-front (word t f) = word-front t
@@ -70,7 +70,7 @@ module _ (m : Mode) where
   spelled-front (one-star h) = rw h
   spelled-front two-stars = refl
   spelled-front (one-slash h) = refl
-  spelled-front (quoted-text h) = simp append-assoc (ap (closed 34) (run-span h))
+  spelled-front (quoted-text h) = simp append-assoc (ap (closed 34) (run-split h))
   spelled-front (quoted-symbol h k) = symbol-front h
 
   front-is : {w r : List ℕ} → OneElement m w r → frontAt m (w ++ r) ≡ (w, r)
@@ -80,7 +80,7 @@ module _ (m : Mode) where
 
   -- what is found where an element stands
   record There (l g : List ℕ) : Type 0 where
-    what : Found
+    what : Ahead
     is : nextElement m l ≡ what
     gap : gapOf what ≡ some g
     sound : Sound what

@@ -13,15 +13,15 @@ use Rattle.rules.specs.Grammar.{strict}
 use Rattle.rules.specs.Elements.{setsOff, Gap, Cut, none-more, next, Spells, Breaks, open-at-end, open-at, foreign, Fault, no-element, no-form, past-limit, broken-text, broken-symbol, broken-comment, empty-symbol, long-symbol}
 use Rattle.rules.specs.Reading.{accepted, Judged, follows}
 use Rattle.rules.specs.SameElements.{OneElement, spelled, any-word, any-symbol, isEND, Through, first-END, Listed, to-the-end, through-END, and-then, FaultOutside, fault-here, fault-later, SameElements}
-use Rattle.rules.proofs.Grammar.Machine.{State, goes, step}
+use Rattle.rules.proofs.Machine.Statements.{State, goes, step, isEnd}
 use Rattle.rules.proofs.Grammar.Run.{Reach, here, by-step}
 use Rattle.rules.proofs.Grammar.Complete.{refuses-goes, complete}
 use Rattle.rules.proofs.Reading.StepTwice.{leads}
 use Rattle.rules.proofs.Elements.Pieces.{is-element, piece-complete}
 use Rattle.rules.proofs.Reading.ElementTwice.{other-than-end, spells-end}
-use Rattle.rules.proofs.Reading.Reader.{isEnd}
 use Rattle.rules.proofs.Reading.Modes.{ends-offers}
-use Rattle.rules.proofs.Elements.Next.{NextIs, finds, faults, ends, spells-some, next-sound}
+use Rattle.rules.proofs.Machine.Elements.{NextIs, finds, faults, ends}
+use Rattle.rules.proofs.Elements.Next.{spells-some, next-sound}
 
 breaks-code : {p : ℕ → Bool} {r : List ℕ} {c : ℕ} → Breaks p r c → c ≤ 3
 breaks-code open-at-end = omega arith

@@ -1,9 +1,8 @@
 -- A label that a mode accepts, a mode that allows more accepts too, with the same table, if no bare BEGIN_GROUP stands in it
 -- where only the other reserves that.
 use Prim.Native.Nat.{ℕ}
-use native.Mathlib.Omega.{arith}
 use mathlib.Core.Bool.{Bool, true, false, cond, _&&_, _||_, false≢true}
-use mathlib.Core.Option.{Option, none, some}
+use mathlib.Core.Option.{Option, some}
 use mathlib.Core.Path.{_≡_, refl, sym, ap, subst, _∙_}
 use mathlib.Core.List.{List, [], _∷_}
 use borrow.Author.Tests.{eqb-true}
@@ -17,10 +16,12 @@ use Rattle.rules.specs.Values.{Written, an-identifier, a-whole, a-based,
 use Rattle.rules.specs.Words.{Shape, identifier-word, integer-word, based-word, real-word, date-word, time-word, date-time-word, range-word}
 use Rattle.rules.specs.Elements.{look, signs, signOf, isBlank, setsOff, Gap, no-gap, blank, remark, Spells, word, sign, one-star, two-stars, one-slash, quoted-text, quoted-symbol, Cut, none-more, next}
 use Rattle.rules.specs.Reading.{accepted, Judged, follows}
-use Rattle.rules.proofs.Grammar.Machine.{Group, Place, alone, within as member-of, State, at-statement, at-semicolon, at-equals, at-pointer, at-opener, at-opened, at-closer, at-closed, at-scalar, at-number, at-member, at-row, at-next-row, at-unit, at-power, at-exponent, at-factor, at-end, Answer, refuses, goes, judge, statements, after-statement, members, follows as offered, step}
+use Rattle.rules.proofs.Machine.Statements.{Group, Place, alone, within as member-of, State, at-statement, at-semicolon, at-equals, at-pointer, at-opener, at-opened, at-closer, at-closed, at-scalar, at-number, at-member, at-row, at-next-row, at-unit, at-power, at-exponent, at-factor, at-end, Answer, refuses, goes, judge, statements, after-statement, members, follows as offered, step}
 use Rattle.rules.proofs.Grammar.Run.{Reach, here, by-step}
 use Rattle.rules.proofs.Grammar.Complete.{refuses-goes, complete}
 use Rattle.rules.proofs.Grammar.Wider.{Allows, label-too}
+use Rattle.rules.proofs.Tables.Tests.{same-true}
+use Rattle.rules.proofs.Options.{none-some, some-same}
 
 -- ---- an END that is not set off is refused everywhere
 
@@ -77,9 +78,9 @@ Settled (range a b) = Unit {0}
 Settled text = Unit {0}
 Settled symbol = Unit {0}
 
-pub data Each (P : Elem → Type 0) : List Placed → Type 0 where
-  none-more-of : Each P []
-  each-of : {e : Elem} {p : Span} {es : List Placed} → P e → Each P es → Each P (e on p ∷ es)
+pub data EachElement (P : Elem → Type 0) : List Placed → Type 0 where
+  none-more-of : EachElement P []
+  each-of : {e : Elem} {p : Span} {es : List Placed} → P e → EachElement P es → EachElement P (e on p ∷ es)
 
 -- no bare BEGIN_GROUP
 abbrev pub NoBeginGroup : Elem → Type 0
@@ -98,27 +99,11 @@ settled m q o (range a b) p h = tt
 settled m q o text p h = tt
 settled m q o symbol p h = tt
 
-all-settled : {m : Mode} {q q′ : State} {o o′ : Opens} {es : List Placed} {rs : List Row} → Reach m strict q o es q′ o′ rs → Each Settled es
+all-settled : {m : Mode} {q q′ : State} {o o′ : Opens} {es : List Placed} {rs : List Row} → Reach m strict q o es q′ o′ rs → EachElement Settled es
 all-settled here = none-more-of
 all-settled {m} (by-step {q = q} {o = o} {x = e on p} h t) = each-of (settled m q o e p h) (all-settled t)
 
 -- ---- names
-
-same-is : (a b : List ℕ) → same a b ≡ true → a ≡ b
-same-is [] [] h = refl
-same-is [] (b ∷ t) h = absurd (false≢true h)
-same-is (a ∷ s) [] h = absurd (false≢true h)
-same-is (a ∷ s) (b ∷ t) h = go (same-is s t) (eqb a b) refl h
-  where
-    go : (same s t ≡ true → s ≡ t) → (x : Bool) → eqb a b ≡ x → (x && same s t) ≡ true → _≡_ {A = List ℕ} (a ∷ s) (b ∷ t)
-    go ih true e k = let f = ih k in let g = eqb-true a b e in cc
-    go ih false e k = absurd (false≢true k)
-
-some-is : {e e′ : Elem} → _≡_ {A = Option Elem} (some e) (some e′) → e ≡ e′
-some-is h = cc
-
-none-some : {A : Type 0} {e : A} → _≡_ {A = Option A} none (some e) → ⊥
-none-some {e} h = let z : _≡_ {A = ℕ} 0 1 = cc in omega arith
 
 otherwise : (e : Elem) (t : Bool) (x y y′ : Option Elem) → (y ≡ some e → y′ ≡ some e) → cond t x y ≡ some e → cond t x y′ ≡ some e
 otherwise e true x y y′ f h = h
@@ -126,7 +111,7 @@ otherwise e false x y y′ f h = f h
 
 set-off : (e : Elem) (off off′ : Bool) → (off ≡ true → off′ ≡ true) → Settled e → _≡_ {A = Option Elem} (some (end off)) (some e) → _≡_ {A = Option Elem} (some (end off′)) (some e)
 set-off e true off′ f s h = ap (λ (b : Bool). some (end b)) (f refl) ∙ h
-set-off e false off′ f s h = absurd (false≢true (subst Settled (sym (some-is h)) s))
+set-off e false off′ f s h = absurd (false≢true (subst Settled (sym (some-same h)) s))
 
 an-end : (e : Elem) (off off′ t : Bool) (y y′ : Option Elem) → (off ≡ true → off′ ≡ true) → Settled e → (y ≡ some e → y′ ≡ some e) →
     cond t (some (end off)) y ≡ some e → cond t (some (end off′)) y′ ≡ some e
@@ -139,7 +124,7 @@ begin-group e n true p′ true f b k h = rw (f refl) h
 begin-group e n false p′ true f b k h = absurd (go (leb (length n) 60) h)
   where
     go : (c : Bool) → within c (name n) ≡ some e → ⊥
-    go true h = b (sym (some-is h) ∙ ap name (same-is n (ascii "BEGIN_GROUP") k))
+    go true h = b (sym (some-same h) ∙ ap name (same-true n (ascii "BEGIN_GROUP") k))
     go false h = none-some h
 begin-group e n true true false f b k h = h
 begin-group e n true false false f b k h = h
@@ -211,11 +196,11 @@ module _ (m m′ : Mode) (w : Allows m m′) where
   spells-too (quoted-text t) s b = quoted-text t
   spells-too (quoted-symbol t k) s b = quoted-symbol t k
 
-  cut-too : {i j : ℕ} {l r : List ℕ} {es : List Placed} → Cut m i l es j r → Each Settled es → Each NoBeginGroup es → Cut m′ i l es j r
+  cut-too : {i j : ℕ} {l r : List ℕ} {es : List Placed} → Cut m i l es j r → EachElement Settled es → EachElement NoBeginGroup es → Cut m′ i l es j r
   cut-too none-more none-more-of none-more-of = none-more
   cut-too (next g x y s c) (each-of a h) (each-of b k) = next g x (gap-too y) (spells-too s a b) (cut-too c h k)
 
   -- accepted with the same rows and place
-  pub accepted-too : {l r : List ℕ} {es : List Placed} {i : ℕ} {rows : List Row} → Cut m 0 l es i r → Label m strict es rows → Each NoBeginGroup es →
+  pub accepted-too : {l r : List ℕ} {es : List Placed} {i : ℕ} {rows : List Row} → Cut m 0 l es i r → Label m strict es rows → EachElement NoBeginGroup es →
       Judged m l (accepted rows i) × Judged m′ l (accepted rows i)
   accepted-too c L b = (follows c L, follows (cut-too c (all-settled (complete m strict L)) b) (label-too m m′ strict w L))

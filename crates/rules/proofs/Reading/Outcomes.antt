@@ -12,12 +12,14 @@ use Rattle.rules.specs.Faults.{PastLimit, exponent-past, name-differs, t
 use Rattle.rules.specs.Elements.{Gap, Spells, placed, Cut, none-more, next, Breaks, open-at-end, open-at, foreign, Fault, no-element, no-form, broken-text, broken-symbol, broken-comment, empty-symbol, long-symbol}
 use Rattle.rules.specs.Elements as Elements
 use Rattle.rules.specs.Reading.{Outcome, accepted, refused, Judged, follows, misspelled, misplaced, ends-early}
-use Rattle.rules.proofs.Elements.Next.{same-found, nextElement, finds, next-complete}
-use Rattle.rules.proofs.Grammar.Machine.{State, at-end, goes, step}
+use Rattle.rules.proofs.Elements.Next.{same-ahead, next-complete}
+use Rattle.rules.proofs.Machine.Elements.{nextElement, finds}
+use Rattle.rules.proofs.Machine.Statements.{State, at-end, goes, step}
 use Rattle.rules.proofs.Grammar.Run.{Reach, here, by-step}
 use Rattle.rules.proofs.Grammar.Complete.{refuses-goes, complete}
 use Rattle.rules.proofs.Grammar.Theorems.{unique}
-use Rattle.rules.proofs.Reading.Reader.{judge, judge-sound, judge-complete, cut-length, end-refuses}
+use Rattle.rules.proofs.Machine.Labels.{judgeLabel}
+use Rattle.rules.proofs.Reading.Reader.{judge-sound, judge-complete, cut-length, end-refuses}
 
 -- an outcome tells what it is
 pub accepted-same : {rows rows′ : List Row} {i j : ℕ} → accepted rows i ≡ accepted rows′ j → rows ≡ rows′
@@ -29,7 +31,7 @@ accepted-refused {rows} {i} {c} {j} e = let z : _≡_ {A = ℕ} 0 1 = cc in omeg
 module _ (m : Mode) where
   -- the rules accept or refuse every list of bytes, with one table, or one code and place
   pub one-outcome : (l : List ℕ) → (z : Outcome) × Judged m l z × ((z′ : Outcome) → Judged m l z′ → z′ ≡ z)
-  one-outcome l = (judge m l, judge-sound m l, λ z′ j. sym (judge-complete m j))
+  one-outcome l = (judgeLabel m l, judge-sound m l, λ z′ j. sym (judge-complete m j))
 
   -- ---- one way
 
@@ -40,7 +42,7 @@ module _ (m : Mode) where
       {b t : List ℕ} {ys : List Placed} {k : ℕ} {rs : List Row} → b ≡ g ++ (w ++ l) → Cut m i b ys k t → Reach m strict q o ys at-end outside rs → (placed i g w e n ∷ xs ≡ ys) × (j ≡ k)
   another {i = i} {n = n} {e = e} {g = g} {w = w} x s h ih p none-more here = absurd (refuses-goes (sym (end-refuses m outside (placed i g w e n)) ∙ h))
   another {q} {q′} {o} {o′} {i} {n} {e = e} {g = g} {w = w} {l = l} {xs = xs} x s h ih {t = t} {k = k} p (next {q = n₂} {l = l₂} {e = e₂} {es = ys} g₂ w₂ x₂ s₂ c₂) (by-step {q′ = q₂} {o′ = o₂} {r = r₂} {rs = rs₂} h₂ t₂) =
-      let f = same-found (sym (next-complete m (finds x s)) ∙ ap (nextElement m) (sym p) ∙ next-complete m (finds x₂ s₂)) in
+      let f = same-ahead (sym (next-complete m (finds x s)) ∙ ap (nextElement m) (sym p) ∙ next-complete m (finds x₂ s₂)) in
       let one : placed i g w e n ≡ placed i g₂ w₂ e₂ n₂ = rw (f .elem, f .left, f .gap, f .bytes) in
       let both : goes _ _ _ ≡ goes q₂ o₂ r₂ = sym h ∙ ap (step m strict q o) one ∙ h₂ in
       let qs : q₂ ≡ q′ = cc in
@@ -64,16 +66,16 @@ module _ (m : Mode) where
 
   -- ---- what the reader can give
 
-  pub record Within (least most : ℕ) (n : ℕ) : Type 0 where
+  pub record InRange (least most : ℕ) (n : ℕ) : Type 0 where
     pub from : least ≤ n
     pub upto : n ≤ most
 
-  break-code : {p : ℕ → Bool} {r : List ℕ} {c : ℕ} → Breaks p r c → Within 2 10 c
+  break-code : {p : ℕ → Bool} {r : List ℕ} {c : ℕ} → Breaks p r c → InRange 2 10 c
   break-code open-at-end = omega arith
   break-code (open-at h) = omega arith
   break-code (foreign h) = omega arith
 
-  fault-code : {r : List ℕ} {c : ℕ} → Fault m r c → Within 2 10 c
+  fault-code : {r : List ℕ} {c : ℕ} → Fault m r c → InRange 2 10 c
   fault-code (no-element f g h k) = omega arith
   fault-code (no-form t f) = omega arith
   fault-code (Elements.past-limit t f) = omega arith
@@ -83,19 +85,19 @@ module _ (m : Mode) where
   fault-code empty-symbol = omega arith
   fault-code (long-symbol t h) = omega arith
 
-  limit-code : {e : Elem} {c : ℕ} → PastLimit e c → Within 2 10 c
+  limit-code : {e : Elem} {c : ℕ} → PastLimit e c → InRange 2 10 c
   limit-code exponent-past = omega arith
   limit-code name-differs = omega arith
   limit-code (too-deep k) = omega arith
   limit-code (begun-too-deep k) = omega arith
   limit-code not-set-off = omega arith
 
-  refusal-code : {es : List Placed} {x : Placed} {c : ℕ} → Code m es x c → Within 2 10 c
+  refusal-code : {es : List Placed} {x : Placed} {c : ℕ} → Code m es x c → InRange 2 10 c
   refusal-code (cannot-stand n) = omega arith
   refusal-code (past-limit v l) = limit-code l
 
   -- the code of a refusal, and its place, which lies in the input or at its end
-  pub refusal-given : {l : List ℕ} {c i : ℕ} → Judged m l (refused c i) → Within 2 10 c × (i ≤ length l)
+  pub refusal-given : {l : List ℕ} {c i : ℕ} → Judged m l (refused c i) → InRange 2 10 c × (i ≤ length l)
   refusal-given (misspelled {g = g} {r} k E x f) = (fault-code f, omega (arith, cut-length m k, length-append g r))
   refusal-given (misplaced {g = g} {w} {r} k E x s R) = (refusal-code (R .code), omega (arith, cut-length m k, length-append g (w ++ r)))
   refusal-given (ends-early k E x) = (omega arith, omega arith)

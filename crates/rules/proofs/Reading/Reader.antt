@@ -1,4 +1,4 @@
--- The reading of a label, as a function: the next element, and the machine's step over it, until END or a fault.
+-- The reading of a label is as the rules say, both ways: every label has one outcome, and every call one answer.
 use Prim.Native.Nat.{ℕ, zero, suc, _+_, _<_}
 use native.Mathlib.Omega.{arith}
 use native.Mathlib.Nat.{zero-add}
@@ -7,144 +7,92 @@ use mathlib.Core.Path.{_≡_, refl, sym, ap, subst, _∙_}
 use mathlib.Core.List.{List, [], _++_, append-assoc, append-nil}
 use borrow.Author.Tests.{leb-true, leb-false, le-leb, lt-leb}
 use lib.Dec.{leb}
-use lib.ListN.{length, length-append, drop}
+use lib.ListN.{length, length-append}
 use Rattle.rules.specs.Data.{Elem, name, the, end, integer, based, real, moment, range, text, symbol, Placed, _on_, Row, Opens, outside}
 use Rattle.rules.specs.Grammar.{strict, Label}
 use Rattle.rules.specs.Modes.{Mode}
 use Rattle.rules.specs.Faults.{Refused, Early}
-use Rattle.rules.specs.Elements.{Gap, Spells, placed, Cut, none-more, next, Fault}
+use Rattle.rules.specs.Elements.{Gap, Spells, placed, Cut, none-more, next}
 use Rattle.rules.specs.Reading.{longest, Outcome, accepted, refused, Judged, follows, misspelled, misplaced, ends-early, Reads, too-long, read, Said, Answered, stored, no-room, not-read}
 use Rattle.rules.specs.Table.{table}
-use Rattle.rules.proofs.Grammar.Machine.{State, at-statement, at-semicolon, at-equals, at-pointer, at-opener, at-opened, at-closer, at-closed, at-scalar, at-number, at-member, at-row, at-next-row, at-unit, at-power, at-exponent, at-factor, at-end, Answer, refuses, goes, step}
+use Rattle.rules.proofs.Machine.Statements.{State, at-statement, at-semicolon, at-equals, at-pointer, at-opener, at-opened, at-closer, at-closed, at-scalar, at-number, at-member, at-row, at-next-row, at-unit, at-power, at-exponent, at-factor, at-end, Answer, refuses, goes, step}
 use Rattle.rules.proofs.Grammar.Run.{Reach, here, by-step, reading, trace, reach-run}
 use Rattle.rules.proofs.Grammar.Run as Run
 use Rattle.rules.proofs.Grammar.Rest.{r-end}
 use Rattle.rules.proofs.Grammar.Complete.{refuses-goes, complete}
 use Rattle.rules.proofs.Grammar.Theorems.{whole, sound-reach, refused-at, viable→taken, early, reach→viable, same-code, reach-more}
-use Rattle.rules.proofs.Elements.Next.{Found, found, faulty, none-left, nextElement, NextIs, finds, faults, ends, spells-some, next-sound, next-complete}
+use Rattle.rules.proofs.Machine.Elements.{Ahead, nextElement, NextIs, finds, faults, ends}
+use Rattle.rules.proofs.Elements.Next.{spells-some, next-sound, next-complete}
+use Rattle.rules.proofs.Machine.Statements.{isEnd}
+use Rattle.rules.proofs.Machine.Labels.{behind-rows, stepped, taken, loop, judgeLabel, reader, Stop, at-the-end, at-a-fault, at-an-element, at-no-more, Goes, now, later, roomy, returned, answer}
+use Rattle.rules.proofs.Machine.Returns.{Return, returns}
 
-abbrev pub isEnd : State → Bool
-isEnd at-statement = false
-isEnd at-semicolon = false
-isEnd at-equals = false
-isEnd at-pointer = false
-isEnd (at-opener k) = false
-isEnd (at-opened k) = false
-isEnd (at-closer n) = false
-isEnd (at-closed n) = false
-isEnd (at-scalar c a) = false
-isEnd (at-number c) = false
-isEnd (at-member g) = false
-isEnd at-row = false
-isEnd at-next-row = false
-isEnd (at-unit c op) = false
-isEnd (at-power c op p) = false
-isEnd (at-exponent c op p) = false
-isEnd (at-factor c) = false
-isEnd at-end = true
+-- ---- an outcome behind rows
 
-abbrev pub onto : List Row → Outcome → Outcome
-onto rs (accepted qs i) = accepted (rs ++ qs) i
-onto rs (refused c i) = refused c i
+pub onto-nil : (z : Outcome) → behind-rows [] z ≡ z
+onto-nil (accepted qs i) = refl
+onto-nil (refused c i) = refl
 
-abbrev pub stepped : ℕ → Answer → (State → Opens → Outcome) → Outcome
-stepped i (refuses c) f = refused c i
-stepped i (goes q o rs) f = onto rs (f q o)
+pub onto-onto : (rs qs : List Row) (z : Outcome) → behind-rows rs (behind-rows qs z) ≡ behind-rows (rs ++ qs) z
+onto-onto rs qs (accepted ps i) = ap (λ (l : List Row). accepted l i) (sym (append-assoc rs qs ps))
+onto-onto rs qs (refused c i) = refl
 
-abbrev pub taken : Mode → State → Opens → ℕ → List ℕ → Found → (State → Opens → ℕ → List ℕ → Outcome) → Outcome
-taken m q o i l (found e n g w r) f = stepped (i + length g) (step m strict q o (placed i g w e n)) (λ q′ o′. f q′ o′ (i + length g + length w) r)
-taken m q o i l (faulty c g) f = refused c (i + length g)
-taken m q o i l none-left f = refused 10 (i + length l)
-
-abbrev pub loop : Mode → ℕ → State → Opens → ℕ → List ℕ → Outcome
-loop m zero q o i l = refused 10 i
-loop m (suc k) q o i l =
-    let z = taken m q o i l (nextElement m l) (loop m k) in
-    cond (isEnd q) (accepted [] i) z
-
-abbrev pub judge : Mode → List ℕ → Outcome
-judge m l = loop m (suc (length l)) at-statement outside 0 l
-
-abbrev pub reader : Mode → List ℕ → Outcome
-reader m l = let z = judge m l in cond (leb (length l) longest) z (refused 1 longest)
-
--- ---- the loop as a relation
+-- ---- the loop is its relation
 
 module _ (m : Mode) where
-  -- where it stops
-  pub data Stop : State → Opens → ℕ → List ℕ → Outcome → Type 0 where
-    at-the-end : {q : State} {o : Opens} {i : ℕ} {l : List ℕ} → isEnd q ≡ true → Stop q o i l (accepted [] i)
-    at-a-fault : {q : State} {o : Opens} {i c : ℕ} {g r : List ℕ} → isEnd q ≡ false → Gap m g r → Fault m r c → Stop q o i (g ++ r) (refused c (i + length g))
-    at-an-element : {q : State} {o : Opens} {i c n : ℕ} {g w r : List ℕ} {e : Elem} → isEnd q ≡ false → Gap m g (w ++ r) → Spells m w e n r →
-        step m strict q o (placed i g w e n) ≡ refuses c → Stop q o i (g ++ (w ++ r)) (refused c (i + length g))
-    at-no-more : {q : State} {o : Opens} {i : ℕ} {l : List ℕ} → isEnd q ≡ false → Gap m l [] → Stop q o i l (refused 10 (i + length l))
-
-  pub data Goes : State → Opens → ℕ → List ℕ → Outcome → Type 0 where
-    now : {q : State} {o : Opens} {i : ℕ} {l : List ℕ} {z : Outcome} → Stop q o i l z → Goes q o i l z
-    later : {q q′ : State} {o o′ : Opens} {i n : ℕ} {g w r : List ℕ} {e : Elem} {rs : List Row} {z : Outcome} → isEnd q ≡ false → Gap m g (w ++ r) → Spells m w e n r →
-        step m strict q o (placed i g w e n) ≡ goes q′ o′ rs → Goes q′ o′ (i + length g + length w) r z → Goes q o i (g ++ (w ++ r)) (onto rs z)
-
-  loop-sound : (k : ℕ) (q : State) (o : Opens) (i : ℕ) (l : List ℕ) → length l < k → Goes q o i l (loop m k q o i l)
+  loop-sound : (k : ℕ) (q : State) (o : Opens) (i : ℕ) (l : List ℕ) → length l < k → Goes m q o i l (loop m k q o i l)
   loop-sound zero q o i l h = absurd (omega arith)
   loop-sound (suc k) q o i l h = by-end (λ q′ o′ i′ r′. loop-sound k q′ o′ i′ r′) (isEnd q) refl
     where
       next-by : {w r : List ℕ} {g : List ℕ} {e : Elem} {n : ℕ} → isEnd q ≡ false → Gap m g (w ++ r) → Spells m w e n r →
-          ((q′ : State) (o′ : Opens) → Goes q′ o′ (i + length g + length w) r (loop m k q′ o′ (i + length g + length w) r)) →
-          (a : Answer) → step m strict q o (placed i g w e n) ≡ a → Goes q o i (g ++ (w ++ r)) (stepped (i + length g) a (λ q′ o′. loop m k q′ o′ (i + length g + length w) r))
+          ((q′ : State) (o′ : Opens) → Goes m q′ o′ (i + length g + length w) r (loop m k q′ o′ (i + length g + length w) r)) →
+          (a : Answer) → step m strict q o (placed i g w e n) ≡ a → Goes m q o i (g ++ (w ++ r)) (stepped (i + length g) a (λ q′ o′. loop m k q′ o′ (i + length g + length w) r))
       next-by x g s ih (refuses c) e = now (at-an-element x g s e)
       next-by x g s ih (goes q′ o′ rs) e = later x g s e (ih q′ o′)
 
-      by-next : isEnd q ≡ false → {l : List ℕ} {f : Found} → length l < suc k → NextIs m l f →
-          ((q′ : State) (o′ : Opens) (i : ℕ) (r : List ℕ) → length r < k → Goes q′ o′ i r (loop m k q′ o′ i r)) → Goes q o i l (taken m q o i l f (loop m k))
+      by-next : isEnd q ≡ false → {l : List ℕ} {f : Ahead} → length l < suc k → NextIs m l f →
+          ((q′ : State) (o′ : Opens) (i : ℕ) (r : List ℕ) → length r < k → Goes m q′ o′ i r (loop m k q′ o′ i r)) → Goes m q o i l (taken m q o i l f (loop m k))
       by-next x h (finds {g} {w} {r} {e} {q = n} y s) ih =
           next-by x y s (λ q′ o′. ih q′ o′ (i + length g + length w) r (omega (arith, spells-some s, length-append g (w ++ r), length-append w r))) (step m strict q o (placed i g w e n)) refl
       by-next x h (faults y f) ih = now (at-a-fault x y f)
       by-next x h (ends y) ih = now (at-no-more x y)
 
-      by-end : ((q′ : State) (o′ : Opens) (i : ℕ) (r : List ℕ) → length r < k → Goes q′ o′ i r (loop m k q′ o′ i r)) → (t : Bool) → isEnd q ≡ t → Goes q o i l (cond t (accepted [] i) (taken m q o i l (nextElement m l) (loop m k)))
+      by-end : ((q′ : State) (o′ : Opens) (i : ℕ) (r : List ℕ) → length r < k → Goes m q′ o′ i r (loop m k q′ o′ i r)) → (t : Bool) → isEnd q ≡ t → Goes m q o i l (cond t (accepted [] i) (taken m q o i l (nextElement m l) (loop m k)))
       by-end ih true x = now (at-the-end x)
       by-end ih false x = by-next x h (next-sound m l) ih
 
-  one-turn : (k : ℕ) (q : State) (o : Opens) (i : ℕ) {l : List ℕ} {f : Found} → isEnd q ≡ false → NextIs m l f → loop m (suc k) q o i l ≡ taken m q o i l f (loop m k)
-  one-turn k q o i {l} x n = rw x (ap (λ (f : Found). taken m q o i l f (loop m k)) (next-complete m n))
+  one-turn : (k : ℕ) (q : State) (o : Opens) (i : ℕ) {l : List ℕ} {f : Ahead} → isEnd q ≡ false → NextIs m l f → loop m (suc k) q o i l ≡ taken m q o i l f (loop m k)
+  one-turn k q o i {l} x n = rw x (ap (λ (f : Ahead). taken m q o i l f (loop m k)) (next-complete m n))
 
-  loop-stops : {q : State} {o : Opens} {i : ℕ} {l : List ℕ} {z : Outcome} → Stop q o i l z → (k : ℕ) → loop m (suc k) q o i l ≡ z
+  loop-stops : {q : State} {o : Opens} {i : ℕ} {l : List ℕ} {z : Outcome} → Stop m q o i l z → (k : ℕ) → loop m (suc k) q o i l ≡ z
   loop-stops (at-the-end x) k = rw x
   loop-stops {q} {o} {i} (at-a-fault x g f) k = one-turn k q o i x (faults g f)
   loop-stops {q} {o} {i} (at-an-element {g = g′} {w} {r} x g s e) k =
       one-turn k q o i x (finds g s) ∙ ap (λ (a : Answer). stepped (i + length g′) a (λ q′ o′. loop m k q′ o′ (i + length g′ + length w) r)) e
   loop-stops {q} {o} {i} (at-no-more x g) k = one-turn k q o i x (ends g)
 
-  pub loop-complete : {q : State} {o : Opens} {i : ℕ} {l : List ℕ} {z : Outcome} → Goes q o i l z → (k : ℕ) → length l < k → loop m k q o i l ≡ z
+  pub loop-complete : {q : State} {o : Opens} {i : ℕ} {l : List ℕ} {z : Outcome} → Goes m q o i l z → (k : ℕ) → length l < k → loop m k q o i l ≡ z
   loop-complete (now s) zero h = absurd (omega arith)
   loop-complete (now s) (suc k) h = loop-stops s k
   loop-complete (later x g s e t) zero h = absurd (omega arith)
   loop-complete {q} {o} {i} (later {g = g′} {w} {r} {rs = rs} x g s e t) (suc k) h =
       one-turn k q o i x (finds g s)
       ∙ ap (λ (a : Answer). stepped (i + length g′) a (λ q′ o′. loop m k q′ o′ (i + length g′ + length w) r)) e
-      ∙ ap (onto rs) (loop-complete t k (omega (arith, spells-some s, length-append g′ (w ++ r), length-append w r)))
+      ∙ ap (behind-rows rs) (loop-complete t k (omega (arith, spells-some s, length-append g′ (w ++ r), length-append w r)))
 
   -- ---- and in the rules' terms
 
-  onto-nil : (z : Outcome) → onto [] z ≡ z
-  onto-nil (accepted qs i) = refl
-  onto-nil (refused c i) = refl
-
-  onto-onto : (rs qs : List Row) (z : Outcome) → onto rs (onto qs z) ≡ onto (rs ++ qs) z
-  onto-onto rs qs (accepted ps i) = ap (λ (l : List Row). accepted l i) (sym (append-assoc rs qs ps))
-  onto-onto rs qs (refused c i) = refl
-
   -- the elements up to the stop
   pub data Ran (q : State) (o : Opens) (i : ℕ) (l : List ℕ) : Outcome → Type 0 where
-    ran : {es : List Placed} {j : ℕ} {r : List ℕ} {q′ : State} {o′ : Opens} {rs : List Row} {z : Outcome} → Cut m i l es j r → Reach m strict q o es q′ o′ rs → Stop q′ o′ j r z →
-        Ran q o i l (onto rs z)
+    ran : {es : List Placed} {j : ℕ} {r : List ℕ} {q′ : State} {o′ : Opens} {rs : List Row} {z : Outcome} → Cut m i l es j r → Reach m strict q o es q′ o′ rs → Stop m q′ o′ j r z →
+        Ran q o i l (behind-rows rs z)
 
   ran-more : {q q′ : State} {o o′ : Opens} {i n : ℕ} {g w r : List ℕ} {e : Elem} {rs : List Row} {z : Outcome} → Gap m g (w ++ r) → Spells m w e n r →
-      step m strict q o (placed i g w e n) ≡ goes q′ o′ rs → Ran q′ o′ (i + length g + length w) r z → Ran q o i (g ++ (w ++ r)) (onto rs z)
+      step m strict q o (placed i g w e n) ≡ goes q′ o′ rs → Ran q′ o′ (i + length g + length w) r z → Ran q o i (g ++ (w ++ r)) (behind-rows rs z)
   ran-more {q} {o = o} {i = i} {g = g} {w = w} {r = r} {rs = rs} x s e (ran {rs = qs} {z = z} c t st) =
       subst (Ran q o i (g ++ (w ++ r))) (sym (onto-onto rs qs z)) (ran (next g w x s c) (by-step e t) st)
 
-  pub gather : {q : State} {o : Opens} {i : ℕ} {l : List ℕ} {z : Outcome} → Goes q o i l z → Ran q o i l z
+  pub gather : {q : State} {o : Opens} {i : ℕ} {l : List ℕ} {z : Outcome} → Goes m q o i l z → Ran q o i l z
   gather {q} {o} {i} {l} {z} (now s) = subst (Ran q o i l) (onto-nil z) (ran none-more here s)
   gather (later x g s e t) = ran-more g s e (gather t)
 
@@ -191,7 +139,7 @@ module _ (m : Mode) where
   judged (ran c t (at-an-element x g s e)) = misplaced c (reach-early t x) g s (refused-at m _ t e)
   judged {l} (ran {j = j} {r = r} c t (at-no-more x g)) = subst (λ (n : ℕ). Judged m l (refused 10 n)) (sym (zero-add (length l)) ∙ cut-length c) (ends-early c (reach-early t x) g)
 
-  pub judge-sound : (l : List ℕ) → Judged m l (judge m l)
+  pub judge-sound : (l : List ℕ) → Judged m l (judgeLabel m l)
   judge-sound l = judged (gather (loop-sound (suc (length l)) at-statement outside 0 l (omega arith)))
 
   -- ---- the other way
@@ -217,10 +165,10 @@ module _ (m : Mode) where
       go false h = h
 
   goes-along : {q q′ : State} {o o′ : Opens} {i j : ℕ} {l r : List ℕ} {es : List Placed} {rs : List Row} {z : Outcome} → Cut m i l es j r →
-      Reach m strict q o es q′ o′ rs → Stop q′ o′ j r z → Goes q o i l (onto rs z)
-  goes-along {q} {o = o} {i = i} {l = l} {z = z} none-more here s = subst (Goes q o i l) (sym (onto-nil z)) (now s)
+      Reach m strict q o es q′ o′ rs → Stop m q′ o′ j r z → Goes m q o i l (behind-rows rs z)
+  goes-along {q} {o = o} {i = i} {l = l} {z = z} none-more here s = subst (Goes m q o i l) (sym (onto-nil z)) (now s)
   goes-along {q} {o = o} {i = i} {z = z} (next {l = l} g w x s c) (by-step {x = y} {r = r} {rs = rs} e t) st =
-      subst (Goes q o i (g ++ (w ++ l))) (onto-onto r rs z) (later (goes-not-end q o y e) x s e (goes-along c t st))
+      subst (Goes m q o i (g ++ (w ++ l))) (onto-onto r rs z) (later (goes-not-end q o y e) x s e (goes-along c t st))
 
   not-ended : {es : List Placed} {q : State} {o : Opens} {rs : List Row} → Early m es → Reach m strict at-statement outside es q o rs → isEnd q ≡ false
   not-ended {q = q} {rs = rs} E t = go (isEnd q) refl
@@ -234,7 +182,7 @@ module _ (m : Mode) where
   step-refuses x R t (refuses c) e = e ∙ ap refuses (same-code m (refused-at m x t e .code) (R .code))
   step-refuses x R t (goes q o r) e = absurd (R .fault (reach→viable m strict (reach-more m strict x t e)))
 
-  pub judged-goes : {l : List ℕ} {z : Outcome} → Judged m l z → Goes at-statement outside 0 l z
+  pub judged-goes : {l : List ℕ} {z : Outcome} → Judged m l z → Goes m at-statement outside 0 l z
   judged-goes (follows c L) = simp append-nil at (goes-along c (complete m strict L) (at-the-end refl))
   judged-goes (misspelled {es = es} c E g f) =
       let t = viable→taken m (trace m strict at-statement outside es) (E .until) in
@@ -244,9 +192,9 @@ module _ (m : Mode) where
       goes-along c (t .3) (at-an-element (not-ended E (t .3)) g s (step-refuses (placed i g′ w e n) R (t .3) (step m strict (t .0) (t .1) (placed i g′ w e n)) refl))
   judged-goes {l} (ends-early {es = es} c E g) =
       let t = viable→taken m (trace m strict at-statement outside es) (E .until) in
-      subst (λ (n : ℕ). Goes at-statement outside 0 l (refused 10 n)) (sym (cut-length c) ∙ zero-add (length l)) (goes-along c (t .3) (at-no-more (not-ended E (t .3)) g))
+      subst (λ (n : ℕ). Goes m at-statement outside 0 l (refused 10 n)) (sym (cut-length c) ∙ zero-add (length l)) (goes-along c (t .3) (at-no-more (not-ended E (t .3)) g))
 
-  pub judge-complete : {l : List ℕ} {z : Outcome} → Judged m l z → judge m l ≡ z
+  pub judge-complete : {l : List ℕ} {z : Outcome} → Judged m l z → judgeLabel m l ≡ z
   judge-complete {l} j = loop-complete (judged-goes j) (suc (length l)) (omega arith)
 
   -- ---- the reading
@@ -254,7 +202,7 @@ module _ (m : Mode) where
   pub reads-sound : (l : List ℕ) → Reads m l (reader m l)
   reads-sound l = go (leb (length l) longest) refl
     where
-      go : (t : Bool) → leb (length l) longest ≡ t → Reads m l (cond t (judge m l) (refused 1 longest))
+      go : (t : Bool) → leb (length l) longest ≡ t → Reads m l (cond t (judgeLabel m l) (refused 1 longest))
       go true h = read (leb-true (length l) longest h) (judge-sound l)
       go false h = too-long (leb-false (length l) longest h)
 
@@ -268,37 +216,20 @@ module _ (m : Mode) where
 
 -- ---- the call
 
-abbrev pub said : ℕ → ℕ → ℕ → Said
-said c i n = record { code = c; place = i; size = n }
-
-abbrev pub Return : Type 0
-Return = Said × List ℕ
-
-abbrev pub roomy : Bool → List ℕ → List ℕ → ℕ → Return
-roomy true room t i = (said 0 i (length t), t ++ drop (length t) room)
-roomy false room t i = (said 11 i (length t), room)
-
-abbrev pub returned : List ℕ → Outcome → Return
-returned room (accepted rows i) = roomy (leb (length (table rows)) (length room)) room (table rows) i
-returned room (refused c i) = (said c i 0, room)
-
-abbrev pub answer : Mode → List ℕ → List ℕ → Return
-answer m l room = returned room (reader m l)
-
 module _ (m : Mode) (l room : List ℕ) where
-  pub answered : Answered m l room (answer m l room .0) (answer m l room .1)
+  pub answered : Answered m l room (answer m l room .said) (answer m l room .room)
   answered = go (reader m l) (reads-sound m l)
     where
       fit : (rows : List Row) (i : ℕ) → Reads m l (accepted rows i) → (t : Bool) → leb (length (table rows)) (length room) ≡ t →
-          Answered m l room (roomy t room (table rows) i .0) (roomy t room (table rows) i .1)
+          Answered m l room (roomy t room (table rows) i .said) (roomy t room (table rows) i .room)
       fit rows i r true h = stored r (leb-true (length (table rows)) (length room) h)
       fit rows i r false h = no-room r (leb-false (length (table rows)) (length room) h)
 
-      go : (z : Outcome) → Reads m l z → Answered m l room (returned room z .0) (returned room z .1)
+      go : (z : Outcome) → Reads m l z → Answered m l room (returned room z .said) (returned room z .room)
       go (accepted rows i) r = fit rows i r (leb (length (table rows)) (length room)) refl
       go (refused c i) r = not-read r
 
-  answered-is : {s : Said} {room′ : List ℕ} → Answered m l room s room′ → answer m l room ≡ (s, room′)
+  answered-is : {s : Said} {room′ : List ℕ} → Answered m l room s room′ → answer m l room ≡ returns s room′
   answered-is (stored {rows} {i} r h) = ap (returned room) (reads-complete m r) ∙ rw (le-leb (length (table rows)) (length room) h)
   answered-is (no-room {rows} {i} r h) = ap (returned room) (reads-complete m r) ∙ rw (lt-leb (length (table rows)) (length room) h)
   answered-is (not-read r) = ap (returned room) (reads-complete m r)
@@ -306,4 +237,4 @@ module _ (m : Mode) (l room : List ℕ) where
   pub answered-unique : {s s′ : Said} {room₁ room₂ : List ℕ} → Answered m l room s room₁ → Answered m l room s′ room₂ → (s ≡ s′) × (room₁ ≡ room₂)
   answered-unique a b =
       let e = sym (answered-is a) ∙ answered-is b in
-      (ap (λ (x : Return). x .0) e, ap (λ (x : Return). x .1) e)
+      (ap (λ (x : Return). x .said) e, ap (λ (x : Return). x .room) e)

@@ -13,27 +13,28 @@ use Rattle.rules.specs.Table.{table}
 use Rattle.rules.specs.Proper.{stretch, proper-rows, Ruled}
 use Rattle.rules.specs.Reading.{Outcome, accepted, refused, Judged, longest, Reads, too-long, read, Said, says, Answered, stored, no-room, not-read}
 use Rattle.rules.specs.SameElements.{isEND, Through, Listed, to-the-end, through-END, and-then, SameElements, the-first, further, the-only, behind, AlikeRead, both-accepted, both-refused, both-at-the-end, Ample, AlikeSaid, both-stored, both-not-read, both-ended}
-use Rattle.rules.proofs.Grammar.Machine.{State, at-statement, Answer, step}
-use Rattle.rules.proofs.Reading.StepTwice.{ending, Held, Rows, append, Like, plain, Answers, both-refuse, both-goes, step-both}
+use Rattle.rules.proofs.Machine.Statements.{State, at-statement, Answer, step, isEnd}
+use Rattle.rules.proofs.Reading.StepTwice.{ending, SameBytes, SameRows, append, Like, plain, Answers, both-refuse, both-goes, step-both}
 use Rattle.rules.proofs.Reading.ElementTwice.{other-than-end, Both, both-spelled, both-faulty, both, spells-end}
-use Rattle.rules.proofs.Reading.Reader.{isEnd, onto, at-the-end, at-a-fault, at-an-element, at-no-more, Goes, now, later, gather, judged, judge-complete}
+use Rattle.rules.proofs.Machine.Labels.{behind-rows, at-the-end, at-a-fault, at-an-element, at-no-more, Goes, now, later}
+use Rattle.rules.proofs.Reading.Reader.{gather, judged, judge-complete}
 use Rattle.rules.proofs.Rooms.{refusal-some}
 use Rattle.rules.proofs.Tables.OwnTable.{read-ruled}
 use Rattle.rules.proofs.Reading.EndWord.{end-word-size}
 use Rattle.rules.proofs.Reading.Stretches.{Bare, bare, stretch-is}
 
 -- the bytes from an offset
-pub record From (l : List ℕ) (i : ℕ) (r : List ℕ) : Type 0 where
+pub record FromOffset (l : List ℕ) (i : ℕ) (r : List ℕ) : Type 0 where
   pub before : List ℕ
   pub is : l ≡ before ++ r
   pub size : i ≡ length before
 
 -- from the start
-pub from-start : (l : List ℕ) → From l 0 l
+pub from-start : (l : List ℕ) → FromOffset l 0 l
 from-start l = record { before = []; is = refl; size = refl }
 
 -- behind a gap and an element
-pub onward : {l : List ℕ} {i : ℕ} (g w r : List ℕ) → From l i (g ++ (w ++ r)) → From l (i + length g + length w) r
+pub onward : {l : List ℕ} {i : ℕ} (g w r : List ℕ) → FromOffset l i (g ++ (w ++ r)) → FromOffset l (i + length g + length w) r
 onward g w r f =
     record {
       before = f .before ++ (g ++ w);
@@ -41,7 +42,7 @@ onward g w r f =
       size = omega (arith, f .size, length-append (f .before) (g ++ w), length-append g w);
     }
 
-at-last : {l : List ℕ} {i : ℕ} {r : List ℕ} → From l i r → i + length r ≡ length l
+at-last : {l : List ℕ} {i : ℕ} {r : List ℕ} → FromOffset l i r → i + length r ≡ length l
 at-last {l} {i} {r} f = let e : length l ≡ length (f .before) + length r = ap length (f .is) ∙ length-append (f .before) r in omega (arith, f .size, e)
 
 -- what a call gives, where the room is ample
@@ -69,10 +70,10 @@ module _ (m : Mode) (l l′ : List ℕ) where
     outcome′ : Outcome
     run : Goes m q o i r outcome
     run′ : Goes m q′ o i′ r′ outcome′
-    alike : {rs rs′ : List Row} → Rows l l′ rs rs′ → AlikeRead l l′ (p ∷ ps) (p′ ∷ ps′) (onto rs outcome) (onto rs′ outcome′)
+    alike : {rs rs′ : List Row} → SameRows l l′ rs rs′ → AlikeRead l l′ (p ∷ ps) (p′ ∷ ps′) (behind-rows rs outcome) (behind-rows rs′ outcome′)
 
   -- one element more before
-  longer : {rs rs′ : List Row} {ps ps′ : List ℕ} (p p′ : ℕ) {z z′ : Outcome} → AlikeRead l l′ ps ps′ z z′ → Rows l l′ rs rs′ → AlikeRead l l′ (p ∷ ps) (p′ ∷ ps′) (onto rs z) (onto rs′ z′)
+  longer : {rs rs′ : List Row} {ps ps′ : List ℕ} (p p′ : ℕ) {z z′ : Outcome} → AlikeRead l l′ ps ps′ z z′ → SameRows l l′ rs rs′ → AlikeRead l l′ (p ∷ ps) (p′ ∷ ps′) (behind-rows rs z) (behind-rows rs′ z′)
   longer p p′ (both-accepted x y s) h = let k = append l l′ h (record { meant = x; sized = y }) in both-accepted (k .meant) (k .sized) (behind s)
   longer p p′ (both-refused s) h = both-refused (further s)
   longer p p′ both-at-the-end h = both-at-the-end
@@ -81,8 +82,8 @@ module _ (m : Mode) (l l′ : List ℕ) where
   more p p′ z = record { outcome = z .outcome; outcome′ = z .outcome′; run = z .run; run′ = z .run′; alike = longer p p′ (z .alike) }
 
   -- the element's spans hold the same bytes
-  held : {i i′ : ℕ} (g g′ w r r′ : List ℕ) (e : Elem) (q : ℕ) → From l i (g ++ (w ++ r)) → From l′ i′ (g′ ++ (w ++ r′)) → Bare m w e q →
-      Held l l′ (record { from = i + length g + q; upto = i + length g + length w - q }) (record { from = i′ + length g′ + q; upto = i′ + length g′ + length w - q })
+  held : {i i′ : ℕ} (g g′ w r r′ : List ℕ) (e : Elem) (q : ℕ) → FromOffset l i (g ++ (w ++ r)) → FromOffset l′ i′ (g′ ++ (w ++ r′)) → Bare m w e q →
+      SameBytes l l′ (record { from = i + length g + q; upto = i + length g + length w - q }) (record { from = i′ + length g′ + q; upto = i′ + length g′ + length w - q })
   held {i} {i′} g g′ w r r′ e q f f′ b =
       ap (λ (x : List ℕ). stretch x (record { from = i + length g + q; upto = i + length g + length w - q })) (f .is)
       ∙ stretch-is m (f .before) g w r e q i (f .size) b
@@ -91,7 +92,7 @@ module _ (m : Mode) (l l′ : List ℕ) where
 
   -- one element, and what is read behind it
   element : {q q′ : State} {o : Opens} {i i′ n : ℕ} {g g′ w r r′ : List ℕ} {e : Elem} {ps ps′ : List ℕ} → Like l l′ q q′ → isEnd q ≡ false → isEnd q′ ≡ false →
-      From l i (g ++ (w ++ r)) → From l′ i′ (g′ ++ (w ++ r′)) → Gap m g (w ++ r) → Gap m g′ (w ++ r′) → Spells m w e n r → Spells m w e n r′ →
+      FromOffset l i (g ++ (w ++ r)) → FromOffset l′ i′ (g′ ++ (w ++ r′)) → Gap m g (w ++ r) → Gap m g′ (w ++ r′) → Spells m w e n r → Spells m w e n r′ →
       ((q₁ q₁′ : State) (o₁ : Opens) → Like l l′ q₁ q₁′ → isEnd q₁ ≡ ending e → isEnd q₁′ ≡ ending e →
       Onward (i + length g) (i′ + length g′) q₁ q₁′ o₁ (i + length g + length w) (i′ + length g′ + length w) r r′ ps ps′) →
       Read q q′ o i i′ (g ++ (w ++ r)) (g′ ++ (w ++ r′)) ((i + length g) ∷ ps) ((i′ + length g′) ∷ ps′)
@@ -111,8 +112,8 @@ module _ (m : Mode) (l l′ : List ℕ) where
       go a a′ h h′ (both-goes {q = q₁} {q′ = q₁′} {o = o₁} {rs = rs} {rs′ = rs′} y t t′ rows) =
           let z = ih q₁ q₁′ o₁ y t t′ in
           record {
-            outcome = onto rs (z .outcome);
-            outcome′ = onto rs′ (z .outcome′);
+            outcome = behind-rows rs (z .outcome);
+            outcome′ = behind-rows rs′ (z .outcome′);
             run = later x gap s h (z .run);
             run′ = later x′ gap′ s′ h′ (z .run′);
             alike = z .alike rows;
@@ -120,7 +121,7 @@ module _ (m : Mode) (l l′ : List ℕ) where
 
   -- one element other than END, or the same fault in both
   other : {q q′ : State} {o : Opens} {i i′ : ℕ} {g g′ w r r′ ps ps′ : List ℕ} → Like l l′ q q′ → isEnd q ≡ false → isEnd q′ ≡ false →
-      From l i (g ++ (w ++ r)) → From l′ i′ (g′ ++ (w ++ r′)) → Gap m g (w ++ r) → Gap m g′ (w ++ r′) → isEND w ≡ false → Both m w r r′ →
+      FromOffset l i (g ++ (w ++ r)) → FromOffset l′ i′ (g′ ++ (w ++ r′)) → Gap m g (w ++ r) → Gap m g′ (w ++ r′) → isEND w ≡ false → Both m w r r′ →
       ((q₁ q₁′ : State) (o₁ : Opens) → Like l l′ q₁ q₁′ → isEnd q₁ ≡ false → isEnd q₁′ ≡ false → Read q₁ q₁′ o₁ (i + length g + length w) (i′ + length g′ + length w) r r′ ps ps′) →
       Read q q′ o i i′ (g ++ (w ++ r)) (g′ ++ (w ++ r′)) ((i + length g) ∷ ps) ((i′ + length g′) ∷ ps′)
   other k x x′ f f′ gap gap′ h (both-spelled s s′) ih =
@@ -136,11 +137,11 @@ module _ (m : Mode) (l l′ : List ℕ) where
       }
 
   -- END, set off in both or in neither: the place past it is three bytes on
-  accepted-past : {p p′ n : ℕ} {rs rs′ : List Row} → n ≡ 3 → Rows l l′ rs rs′ → AlikeRead l l′ (p ∷ []) (p′ ∷ []) (onto rs (accepted [] (p + n))) (onto rs′ (accepted [] (p′ + n)))
+  accepted-past : {p p′ n : ℕ} {rs rs′ : List Row} → n ≡ 3 → SameRows l l′ rs rs′ → AlikeRead l l′ (p ∷ []) (p′ ∷ []) (behind-rows rs (accepted [] (p + n))) (behind-rows rs′ (accepted [] (p′ + n)))
   accepted-past e h = let k = append l l′ h (record { meant = refl; sized = refl }) in rw e (both-accepted (k .meant) (k .sized) the-only)
 
   the-END : {q q′ : State} {o : Opens} {i i′ : ℕ} {g g′ w r r′ : List ℕ} {off : Bool} → Like l l′ q q′ → isEnd q ≡ false → isEnd q′ ≡ false →
-      From l i (g ++ (w ++ r)) → From l′ i′ (g′ ++ (w ++ r′)) → Gap m g (w ++ r) → Gap m g′ (w ++ r′) → Spells m w (end off) 0 r → Spells m w (end off) 0 r′ → length w ≡ 3 →
+      FromOffset l i (g ++ (w ++ r)) → FromOffset l′ i′ (g′ ++ (w ++ r′)) → Gap m g (w ++ r) → Gap m g′ (w ++ r′) → Spells m w (end off) 0 r → Spells m w (end off) 0 r′ → length w ≡ 3 →
       Read q q′ o i i′ (g ++ (w ++ r)) (g′ ++ (w ++ r′)) ((i + length g) ∷ []) ((i′ + length g′) ∷ [])
   the-END k x x′ f f′ gap gap′ s s′ n =
       element k x x′ f f′ gap gap′ s s′
@@ -148,7 +149,7 @@ module _ (m : Mode) (l l′ : List ℕ) where
 
   -- both labels from two offsets, with the same elements left
   same : {q q′ : State} {o : Opens} {i i′ : ℕ} {r r′ ps ps′ : List ℕ} {ws : List (List ℕ)} {t : Through} → Like l l′ q q′ → isEnd q ≡ false → isEnd q′ ≡ false →
-      From l i r → From l′ i′ r′ → Listed m i r ws ps t → Listed m i′ r′ ws ps′ t → Read q q′ o i i′ r r′ ps ps′
+      FromOffset l i r → FromOffset l′ i′ r′ → Listed m i r ws ps t → Listed m i′ r′ ws ps′ t → Read q q′ o i i′ r r′ ps ps′
   same {i = i} {i′ = i′} {r = r} {r′ = r′} k x x′ f f′ (to-the-end g) (to-the-end g′) =
       record {
         outcome = refused 10 (i + length r);

@@ -13,21 +13,21 @@ use Rattle.rules.specs.Modes.{Mode}
 use Rattle.rules.specs.Words.{Form}
 use Rattle.rules.specs.Elements.{Spells, word, sign, one-star, two-stars, one-slash, quoted-text, quoted-symbol, Cut, none-more, next}
 use Rattle.rules.specs.Grammar.{strict, Label}
-pub use Rattle.rules.specs.Proper.{stretch}
+use Rattle.rules.specs.Proper.{stretch}
 use Rattle.rules.proofs.Words.Runs.{run-all}
-use Rattle.rules.proofs.Reading.Rows.{Every, no-element, and-element, Rooted, label-from}
+use Rattle.rules.proofs.Reading.FromElements.{Every, no-element, and-element, Rooted, label-from}
 
 -- what stands in an element's span
-pub data Holds (m : Mode) : Elem → List ℕ → Type 0 where
-  holds-word : {e : Elem} {w : List ℕ} {off : Bool} → Form m off w e → Holds m e w
-  holds-sign : {f : Fixed} {w : List ℕ} → Holds m (the f) w
-  holds-text : {w : List ℕ} → All (λ b. ltb b 128 && not (eqb b 34)) w → Holds m text w
-  holds-symbol : {w : List ℕ} → All (λ b. between 32 126 b && not (eqb b 39)) w → between 1 255 (length w) ≡ true → Holds m symbol w
+pub data SpanHolds (m : Mode) : Elem → List ℕ → Type 0 where
+  holds-word : {e : Elem} {w : List ℕ} {off : Bool} → Form m off w e → SpanHolds m e w
+  holds-sign : {f : Fixed} {w : List ℕ} → SpanHolds m (the f) w
+  holds-text : {w : List ℕ} → All (λ b. ltb b 128 && not (eqb b 34)) w → SpanHolds m text w
+  holds-symbol : {w : List ℕ} → All (λ b. between 32 126 b && not (eqb b 39)) w → between 1 255 (length w) ≡ true → SpanHolds m symbol w
 
-pub record Stands (m : Mode) (l : List ℕ) (e : Elem) (p : Span) : Type 0 where
+pub record InLabel (m : Mode) (l : List ℕ) (e : Elem) (p : Span) : Type 0 where
   pub order : p .from ≤ p .upto
   pub inside : p .upto ≤ length l
-  pub content : Holds m e (stretch l p)
+  pub content : SpanHolds m e (stretch l p)
 
 -- an element's bytes without its quotes
 pub record Bare (m : Mode) (w : List ℕ) (e : Elem) (q : ℕ) : Type 0 where
@@ -37,9 +37,9 @@ pub record Bare (m : Mode) (w : List ℕ) (e : Elem) (q : ℕ) : Type 0 where
   pub is : w ≡ before ++ (bytes ++ behind)
   pub before-size : length before ≡ q
   pub behind-size : length behind ≡ q
-  pub content : Holds m e bytes
+  pub content : SpanHolds m e bytes
 
-unquoted : {m : Mode} {w : List ℕ} {e : Elem} → Holds m e w → Bare m w e 0
+unquoted : {m : Mode} {w : List ℕ} {e : Elem} → SpanHolds m e w → Bare m w e 0
 unquoted {w = w} h = record { before = []; bytes = w; behind = []; is = sym (append-nil w); before-size = refl; behind-size = refl; content = h }
 
 pub bare : {m : Mode} {w r : List ℕ} {e : Elem} {q : ℕ} → Spells m w e q r → Bare m w e q
@@ -73,24 +73,24 @@ module _ (m : Mode) where
       ∙ part (a ++ (g ++ b .before)) (b .bytes) (b .behind ++ l) (i + length g + q) (i + length g + length w - q) f k
 
   stands : (a g w l : List ℕ) (e : Elem) (q i : ℕ) → i ≡ length a → Bare m w e q →
-      Stands m (a ++ (g ++ (w ++ l))) e (record { from = i + length g + q; upto = i + length g + length w - q })
+      InLabel m (a ++ (g ++ (w ++ l))) e (record { from = i + length g + q; upto = i + length g + length w - q })
   stands a g w l e q i h b =
       record {
         order = omega (arith, b .before-size, b .behind-size, bare-size w e q b);
         inside = omega (arith, length-append a (g ++ (w ++ l)), length-append g (w ++ l), length-append w l);
-        content = subst (Holds m e) (sym (stretch-is a g w l e q i h b)) (b .content);
+        content = subst (SpanHolds m e) (sym (stretch-is a g w l e q i h b)) (b .content);
       }
 
-  cut-stands : (a : List ℕ) {i j : ℕ} {l r : List ℕ} {es : List Placed} → i ≡ length a → Cut m i l es j r → Every (Stands m (a ++ l)) es
+  cut-stands : (a : List ℕ) {i j : ℕ} {l r : List ℕ} {es : List Placed} → i ≡ length a → Cut m i l es j r → Every (InLabel m (a ++ l)) es
   cut-stands a h none-more = no-element
   cut-stands a {i} h (next {q = q} {l = l} {e = e} g w x s c) =
       and-element (stands a g w l e q i h (bare s))
       (simp append-assoc at (cut-stands (a ++ (g ++ w)) (omega (arith, length-append a (g ++ w), length-append g w)) c))
 
   -- from the start
-  pub elements-stand : {i : ℕ} {l r : List ℕ} {es : List Placed} → Cut m 0 l es i r → Every (Stands m l) es
+  pub elements-stand : {i : ℕ} {l r : List ℕ} {es : List Placed} → Cut m 0 l es i r → Every (InLabel m l) es
   elements-stand c = cut-stands [] refl c
 
   -- each row's span lies inside the label, and holds what the row's kind allows
-  pub rows-stand : {i : ℕ} {l r : List ℕ} {es : List Placed} {rows : List Row} → Cut m 0 l es i r → Label m strict es rows → Rooted (Stands m l) rows
-  rows-stand {l = l} c L = label-from (Stands m l) m strict L (elements-stand c)
+  pub rows-stand : {i : ℕ} {l r : List ℕ} {es : List Placed} {rows : List Row} → Cut m 0 l es i r → Label m strict es rows → Rooted (InLabel m l) rows
+  rows-stand {l = l} c L = label-from (InLabel m l) m strict L (elements-stand c)

@@ -1,85 +1,31 @@
 -- What is asked of a table has one answer, and every question has one.
 use Prim.Native.Nat.{ℕ, _≤_, _<_}
 use mathlib.Core.Path.{_≡_, refl, sym, ap, subst, _∙_}
-use mathlib.Core.Bool.{Bool, true, false, cond, false≢true, true≢false}
-use mathlib.Core.List.{List, [], _∷_, _++_}
+use mathlib.Core.Bool.{true, cond, false≢true, true≢false}
+use mathlib.Core.List.{List, [], _∷_, nil≢cons}
 use mathlib.Core.Option.{Option, none, some}
 use native.Mathlib.Omega.{arith}
 use borrow.Author.Tests.{le-leb, lt-leb, leb-true, leb-false}
 use lib.Dec.{leb}
-use lib.ListN.{length, drop}
+use lib.ListN.{length}
 use Rattle.rules.specs.Data.{Span, Row, attribute, pointer, opened, closed, an-integer, a-real, a-moment, a-text, a-symbol, a-unit, sequence, sequence-end, set, set-end, last}
 use Rattle.rules.specs.Reading.{longest, Said}
 use Rattle.rules.specs.Proper.{stretch, Proper, Verdict, proper-rows, improper-at, Ruled, is-proper}
 use Rattle.rules.specs.Meaning.{reassemble}
-use Rattle.rules.specs.Asked.{From, Starts, says, long-label, no-table, Rows, Texted, text-refused, no-text, short-room, given, Names, of-attribute, of-pointer, of-block, of-symbol, of-unit, Shows, nowhere, Viewed, in-view, no-view, Line, an-attribute, a-pointer, an-opening, a-closing, the-last, Finding, stands, absent, Looks, Sought, search-refused, no-line, no-name, at-offset}
+use Rattle.rules.specs.Asked.{From, Starts, says, long-label, no-table, Rows, Texted, text-refused, no-text, short-room, given, Names, of-attribute, of-pointer, of-block, of-symbol, of-unit, Shows, Viewed, in-view, no-view, Line, an-attribute, a-pointer, an-opening, a-closing, the-last, Finding, stands, absent, Looks, Sought, search-refused, no-line, no-name, at-offset}
+use Rattle.rules.proofs.Options.{none-some, some-same}
 use Rattle.rules.proofs.Tables.Tests.{cond-case}
-use Rattle.rules.proofs.Tables.Judge.{same-rows, not-both, judgeTable, verdict-sound, verdict-once, verdict-complete}
-use Rattle.rules.proofs.Tables.Seeking.{fromOf, from-is, from-there, seeks, looks-is, looks-there}
+use Rattle.rules.proofs.Tables.Judge.{same-rows, not-both, verdict-sound, verdict-once, verdict-complete}
+use Rattle.rules.proofs.Machine.Verdicts.{judgeTable}
+use Rattle.rules.proofs.Machine.Lookup.{fromOf, seeks}
+use Rattle.rules.proofs.Tables.Seeking.{from-is, from-there, looks-is, looks-there}
+use Rattle.rules.proofs.Machine.Queries.{spanOfText, spanOfName, isLine, fromRow, fromSpan, textedOf, finding, soughtOf, viewedOf}
+use Rattle.rules.proofs.Machine.Verdicts.{onVerdict}
+use Rattle.rules.proofs.Machine.Returns.{Return, returns}
 
 -- ---- what a row shows
 
--- the span of a text
-abbrev pub textOf : Row → Option Span
-textOf (attribute p) = none
-textOf (pointer p) = none
-textOf (opened k p) = none
-textOf (closed k) = none
-textOf (an-integer w) = none
-textOf (a-real x) = none
-textOf (a-moment t) = none
-textOf (a-text p) = some p
-textOf (a-symbol p) = none
-textOf (a-unit op p w) = none
-textOf sequence = none
-textOf sequence-end = none
-textOf set = none
-textOf set-end = none
-textOf (last n) = none
-
--- the span of a name
-abbrev pub nameOf : Row → Option Span
-nameOf (attribute p) = some p
-nameOf (pointer p) = some p
-nameOf (opened k p) = some p
-nameOf (closed k) = none
-nameOf (an-integer w) = none
-nameOf (a-real x) = none
-nameOf (a-moment t) = none
-nameOf (a-text p) = none
-nameOf (a-symbol p) = some p
-nameOf (a-unit op p w) = some p
-nameOf sequence = none
-nameOf sequence-end = none
-nameOf set = none
-nameOf set-end = none
-nameOf (last n) = none
-
--- a row of kind 1 to 6 or 99
-abbrev pub isLine : Row → Bool
-isLine (attribute p) = true
-isLine (pointer p) = true
-isLine (opened k p) = true
-isLine (closed k) = true
-isLine (an-integer w) = false
-isLine (a-real x) = false
-isLine (a-moment t) = false
-isLine (a-text p) = false
-isLine (a-symbol p) = false
-isLine (a-unit op p w) = false
-isLine sequence = false
-isLine sequence-end = false
-isLine set = false
-isLine set-end = false
-isLine (last n) = true
-
-none-some : {p : Span} → none ≡ some p → ⊥
-none-some e = let w : _≡_ {A = ℕ} 0 1 = cc in omega arith
-
-some-same : {p q : Span} → some p ≡ some q → p ≡ q
-some-same e = cc
-
-text-there : (r : Row) {p : Span} → textOf r ≡ some p → r ≡ a-text p
+text-there : (r : Row) {p : Span} → spanOfText r ≡ some p → r ≡ a-text p
 text-there (attribute p) e = absurd (none-some e)
 text-there (pointer p) e = absurd (none-some e)
 text-there (opened k p) e = absurd (none-some e)
@@ -96,14 +42,14 @@ text-there set e = absurd (none-some e)
 text-there set-end e = absurd (none-some e)
 text-there (last n) e = absurd (none-some e)
 
-name-is : {r : Row} {p : Span} → Names r p → nameOf r ≡ some p
+name-is : {r : Row} {p : Span} → Names r p → spanOfName r ≡ some p
 name-is of-attribute = refl
 name-is of-pointer = refl
 name-is of-block = refl
 name-is of-symbol = refl
 name-is of-unit = refl
 
-name-there : (r : Row) {p : Span} → nameOf r ≡ some p → Names r p
+name-there : (r : Row) {p : Span} → spanOfName r ≡ some p → Names r p
 name-there (attribute p) e = subst (Names (attribute p)) (some-same e) of-attribute
 name-there (pointer p) e = subst (Names (pointer p)) (some-same e) of-pointer
 name-there (opened k p) e = subst (Names (opened k p)) (some-same e) of-block
@@ -144,70 +90,17 @@ line-there set e = absurd (false≢true e)
 line-there set-end e = absurd (false≢true e)
 line-there (last n) e = the-last
 
-no-rows : {r : Row} {qs : List Row} → _≡_ {A = List Row} [] (r ∷ qs) → ⊥
-no-rows e = let w : _≡_ {A = ℕ} 0 1 = cc in omega arith
-
 first-same : {r r′ : Row} {qs qs′ : List Row} → r ∷ qs ≡ r′ ∷ qs′ → r ≡ r′
 first-same e = cc
 
-is-rows : {given lent : List ℕ} {rows : List Row} → Ruled given lent (proper-rows rows) → Proper given rows
+-- the rows of a proper table
+pub is-rows : {given lent : List ℕ} {rows : List Row} → Ruled given lent (proper-rows rows) → Proper given rows
 is-rows (is-proper e p) = p
-
--- ---- the outcomes, as functions
-
--- the answer and the room
-pub record Outcome : Type 0 where
-  pub said : Said
-  pub room : List ℕ
-
-abbrev pub outcome : Said → List ℕ → Outcome
-outcome s r = record { said = s; room = r }
-
--- by the row that stands there
-abbrev pub fromRow : {A : Type 0} → List Row → A → (Row → A) → A
-fromRow [] a f = a
-fromRow (r ∷ rs) a f = f r
-
-abbrev pub fromSpan : {A : Type 0} → Option Span → A → (Span → A) → A
-fromSpan none a f = a
-fromSpan (some p) a f = f p
-
-abbrev pub fitted : List ℕ → List ℕ → Outcome
-fitted room w = cond (leb (length w) (length room)) (outcome (says 0 0 (length w)) (w ++ drop (length w) room)) (outcome (says 11 0 (length w)) room)
-
-abbrev pub textRow : List ℕ → List ℕ → Row → Outcome
-textRow label room r = fromSpan (textOf r) (outcome (says 15 0 0) room) (λ p. fitted room (reassemble (stretch label p)))
-
-abbrev pub onVerdict : {A : Type 0} → Verdict → (ℕ → A) → (List Row → A) → A
-onVerdict (proper-rows rows) f g = g rows
-onVerdict (improper-at at) f g = f at
-
-unfoldable pub textedOf : List ℕ → List ℕ → ℕ → List ℕ → Outcome
-textedOf label lent row room =
-    cond (leb (length label) longest)
-    (onVerdict (judgeTable label lent) (λ at. outcome (says 12 at 0) room) (λ rows. fromRow (fromOf row rows) (outcome (says 15 0 0) room) (textRow label room)))
-    (outcome (says 1 longest 0) room)
-
-abbrev pub finding : Finding → Said
-finding (stands k) = says 0 0 k
-finding absent = says 14 0 0
-
-abbrev pub lineSaid : List ℕ → List ℕ → ℕ → List Row → Said
-lineSaid label name row qs = fromRow qs (says 15 0 0) (λ r. cond (isLine r) (finding (seeks label name 0 row qs)) (says 15 0 0))
-
-unfoldable pub soughtOf : List ℕ → List ℕ → List ℕ → ℕ → Said
-soughtOf label lent name row =
-    cond (leb (length label) longest) (onVerdict (judgeTable label lent) (λ at. says 12 at 0) (λ rows. lineSaid label name row (fromOf row rows))) (says 1 longest 0)
-
-unfoldable pub viewedOf : List ℕ → List ℕ → ℕ → Span
-viewedOf label lent row =
-    cond (leb (length label) longest)
-    (onVerdict (judgeTable label lent) (λ at. nowhere) (λ rows. fromRow (fromOf row rows) nowhere (λ r. fromSpan (nameOf r) nowhere (λ p. p)))) nowhere
 
 -- ---- no second outcome, and one for every question
 
-outcome-same : {s s′ : Said} {r r′ : List ℕ} → outcome s r ≡ outcome s′ r′ → (s ≡ s′) × (r ≡ r′)
-outcome-same e = (ap (λ (o : Outcome). o .said) e, ap (λ (o : Outcome). o .room) e)
+outcome-same : {s s′ : Said} {r r′ : List ℕ} → returns s r ≡ returns s′ r′ → (s ≡ s′) × (r ≡ r′)
+outcome-same e = (ap (λ (o : Return). o .said) e, ap (λ (o : Return). o .room) e)
 
 module _ (label lent : List ℕ) (row : ℕ) where
   -- of the rows of a proper table
@@ -231,7 +124,7 @@ module _ (label lent : List ℕ) (row : ℕ) where
   each-row G a f rows x y = go (fromOf row rows) refl
     where
       go : (qs : List Row) → fromOf row rows ≡ qs → G (fromRow qs a f)
-      go [] e = x (λ r h. no-rows (sym e ∙ from-is (h .1)))
+      go [] e = x (λ r h. nil≢cons (sym e ∙ from-is (h .1)))
       go (r ∷ qs) e = y r (qs, from-there row rows e)
 
   each-span : {A : Type 0} (G : A → Type 0) (a : A) (f : Span → A) (o : Option Span) → (o ≡ none → G a) → ((p : Span) → o ≡ some p → G (f p)) → G (fromSpan o a f)
@@ -244,7 +137,7 @@ module _ (label lent : List ℕ) (row : ℕ) where
   -- the text
 
   module _ (room : List ℕ) where
-    abbrev Gives : Outcome → Type 0
+    abbrev Gives : Return → Type 0
     Gives o = Texted label lent row room (o .said) (o .room)
 
     abbrev NoText : List Row → Type 0
@@ -255,18 +148,18 @@ module _ (label lent : List ℕ) (row : ℕ) where
     texted-there =
         each Gives _ _ _ (λ h. text-refused (long-label h)) (λ at h v. text-refused (no-table h v)) (λ rows t.
         each-row Gives _ _ rows (λ n. no-text t (λ p. n (a-text p))) (λ r st.
-        each-span Gives _ _ (textOf r) (λ e. no-text t (λ p st′. none-some (sym e ∙ ap textOf (starts-once st st′)))) (λ p e.
+        each-span Gives _ _ (spanOfText r) (λ e. no-text t (λ p st′. none-some (sym e ∙ ap spanOfText (starts-once st st′)))) (λ p e.
         let st′ : Starts row rows (a-text p) = subst (Starts row rows) (text-there r e) st in
         let w : List ℕ = reassemble (stretch label p) in
         cond-case Gives (leb (length w) (length room)) _ _ (λ h. given t st′ (leb-true (length w) (length room) h)) (λ h. short-room t st′ (leb-false (length w) (length room) h)))))
 
-    pub texted-is : {r : List ℕ} {s : Said} → Texted label lent row room s r → textedOf label lent row room ≡ outcome s r
+    pub texted-is : {r : List ℕ} {s : Said} → Texted label lent row room s r → textedOf label lent row room ≡ returns s r
     unfolding textedOf
     texted-is (text-refused (long-label h)) = rw (lt-leb (length label) longest h)
     texted-is (text-refused (no-table h v)) = rw (le-leb (length label) longest h, verdict-complete label h lent v)
     texted-is (no-text {rows = rows} t n) =
-        told rows t _ _ _ ∙ each-row (λ (o : Outcome). o ≡ outcome (says 15 0 0) room) _ _ rows (λ m. refl) (λ r st.
-        each-span (λ (o : Outcome). o ≡ outcome (says 15 0 0) room) _ _ (textOf r) (λ e. refl) (λ p e. absurd (n p (subst (Starts row rows) (text-there r e) st))))
+        told rows t _ _ _ ∙ each-row (λ (o : Return). o ≡ returns (says 15 0 0) room) _ _ rows (λ m. refl) (λ r st.
+        each-span (λ (o : Return). o ≡ returns (says 15 0 0) room) _ _ (spanOfText r) (λ e. refl) (λ p e. absurd (n p (subst (Starts row rows) (text-there r e) st))))
     texted-is (short-room {rows = rows} {p = p} t st l) = told rows t _ _ _ ∙ starts-is _ _ st ∙ rw (lt-leb (length (reassemble (stretch label p))) (length room) l)
     texted-is (given {rows = rows} {p = p} t st l) = told rows t _ _ _ ∙ starts-is _ _ st ∙ rw (le-leb (length (reassemble (stretch label p))) (length room) l)
 
@@ -279,7 +172,7 @@ module _ (label lent : List ℕ) (row : ℕ) where
   shows-once a b =
       let e : a .rows ≡ b .rows = same-rows (verdict-once label (a .told .short) lent (a .told .proper) (b .told .proper)) in
       let f : a .shown ≡ b .shown = starts-once (subst (λ (rs : List Row). Starts row rs (a .shown)) e (a .starts)) (b .starts) in
-      some-same (sym (name-is (a .name)) ∙ ap nameOf f ∙ name-is (b .name))
+      some-same (sym (name-is (a .name)) ∙ ap spanOfName f ∙ name-is (b .name))
 
   pub viewed-once : {p p′ : Span} → Viewed label lent row p → Viewed label lent row p′ → p ≡ p′
   viewed-once (in-view a) (in-view b) = shows-once a b
@@ -292,7 +185,7 @@ module _ (label lent : List ℕ) (row : ℕ) where
   viewed-there =
       each (Viewed label lent row) _ _ _ (λ h. no-view (λ p a. omega (arith, a .told .short))) (λ at h v. no-view (λ p a. not-both (sym (verdict-once label h lent v (a .told .proper))))) (λ rows t.
       each-row (Viewed label lent row) _ _ rows (λ n. no-view (λ p a. n (a .shown) (move rows t a))) (λ r st.
-      each-span (Viewed label lent row) _ _ (nameOf r) (λ e. no-view (λ p a. none-some (sym e ∙ ap nameOf (starts-once st (move rows t a)) ∙ name-is (a .name)))) (λ p e.
+      each-span (Viewed label lent row) _ _ (spanOfName r) (λ e. no-view (λ p a. none-some (sym e ∙ ap spanOfName (starts-once st (move rows t a)) ∙ name-is (a .name)))) (λ p e.
       in-view (record { rows = rows; told = t; shown = r; starts = st; name = name-there r e }))))
     where
       move : (rows : List Row) → Rows label lent rows → {p : Span} (a : Shows label lent row p) → Starts row rows (a .shown)

@@ -1,14 +1,13 @@
--- What a span may hold, as tests: each is true exactly of the bytes that the rules allow.
+-- Each test of what a span may hold is true exactly of the bytes that the rules allow.
 use Prim.Native.Nat.{ℕ, _≤_}
-use Prim.Native.Char.{code as byte}
-use mathlib.Core.Bool.{Bool, true, false, cond, not, _&&_, false≢true}
+use mathlib.Core.Bool.{Bool, true, false, cond, _&&_, false≢true}
 use mathlib.Core.Logic.{_↔_}
 use mathlib.Core.Option.{Option, none, some}
 use mathlib.Core.Path.{_≡_, refl, sym, ap, _∙_}
 use mathlib.Core.List.{List, [], _∷_, map}
 use native.Mathlib.Omega.{arith}
 use borrow.Author.Tests.{leb-true, eqb-true, ne-eqb}
-use lib.Dec.{leb, ltb, eqb}
+use lib.Dec.{leb, eqb}
 use lib.ListN.{length, length-map}
 use Rattle.rules.specs.Bytes.{ascii, between, digit, lower, letter, alnum, wordByte, fold, front, All}
 use Rattle.rules.specs.Bytes as Bytes
@@ -20,20 +19,9 @@ use Rattle.rules.specs.Written.{isName}
 use Rattle.rules.specs.Proper.{theRules, NameWord, TextBody, SymbolBody}
 use Rattle.rules.proofs.Words.Runs.{run-all, all-run}
 use Rattle.rules.proofs.Tables.Tests.{and-true, and-left, and-right, or-first, or-case, not-as, between-in, between-out}
+use Rattle.rules.proofs.Machine.Checks.{textByte, symbolByte, isText, isSymbol}
 
 -- ---- texts and symbols
-
-abbrev pub textByte : ℕ → Bool
-textByte b = ltb b 128 && not (eqb b (byte "\""))
-
-abbrev pub symbolByte : ℕ → Bool
-symbolByte b = between 32 126 b && not (eqb b (byte "'"))
-
-unfoldable pub isText : List ℕ → Bool
-isText w = each textByte w
-
-unfoldable pub isSymbol : List ℕ → Bool
-isSymbol w = each symbolByte w && between 1 255 (length w)
 
 pub all-passes : {c : ℕ → Bool} {s : List ℕ} → All c s → each c s ≡ true
 all-passes Bytes.none = refl
@@ -78,23 +66,23 @@ abbrev tests : List ℕ → Bool → Bool → Bool → Bool → Bool → Bool �
 tests u o a b c d e f l =
     cond a (some (end o)) (cond b (some (the OBJECT)) (cond c (some (the END-OBJECT)) (cond d (some (the GROUP)) (cond e (some (the END-GROUP)) (cond f (some (the BEGIN-OBJECT)) (within l (name u)))))))
 
-record Passed (u : List ℕ) (off a b c d e f l : Bool) : Type 0 where
+record NameTests (u : List ℕ) (off a b c d e f l : Bool) : Type 0 where
   is : tests u off a b c d e f l ≡ some (name u)
   short : l ≡ true
 
-passed : (u : List ℕ) (off a b c d e f l : Bool) → ofName (tests u true a b c d e f l) ≡ true → Passed u off a b c d e f l
-passed u off true b c d e f l h = absurd (false≢true h)
-passed u off false true c d e f l h = absurd (false≢true h)
-passed u off false false true d e f l h = absurd (false≢true h)
-passed u off false false false true e f l h = absurd (false≢true h)
-passed u off false false false false true f l h = absurd (false≢true h)
-passed u off false false false false false true l h = absurd (false≢true h)
-passed u off false false false false false false true h = record { is = refl; short = refl }
-passed u off false false false false false false false h = absurd (false≢true h)
+name-tests : (u : List ℕ) (off a b c d e f l : Bool) → ofName (tests u true a b c d e f l) ≡ true → NameTests u off a b c d e f l
+name-tests u off true b c d e f l h = absurd (false≢true h)
+name-tests u off false true c d e f l h = absurd (false≢true h)
+name-tests u off false false true d e f l h = absurd (false≢true h)
+name-tests u off false false false true e f l h = absurd (false≢true h)
+name-tests u off false false false false true f l h = absurd (false≢true h)
+name-tests u off false false false false false true l h = absurd (false≢true h)
+name-tests u off false false false false false false true h = record { is = refl; short = refl }
+name-tests u off false false false false false false false h = absurd (false≢true h)
 
 named-name : (off : Bool) (u : List ℕ) → ofName (named false true u) ≡ true → (named false off u ≡ some (name u)) × (leb (length u) 60 ≡ true)
 named-name off u h =
-    let p = passed u off (same u (ascii "END")) (same u (ascii "OBJECT")) (same u (ascii "END_OBJECT")) (same u (ascii "GROUP")) (same u (ascii "END_GROUP")) (same u (ascii "BEGIN_OBJECT")) (leb (length u) 60) h in
+    let p = name-tests u off (same u (ascii "END")) (same u (ascii "OBJECT")) (same u (ascii "END_OBJECT")) (same u (ascii "GROUP")) (same u (ascii "END_GROUP")) (same u (ascii "BEGIN_OBJECT")) (leb (length u) 60) h in
     (p .is, p .short)
 
 -- a name of any mode is one; whether END is set off does not matter

@@ -8,9 +8,10 @@ use native.Mathlib.Omega.{arith}
 use lib.ListN.{length}
 use Rattle.rules.specs.Proper.{Each, none, one, Holds}
 use Rattle.rules.specs.Data.{Whole, Kind-discrete, object, group, Row, closed, an-integer, sequence, sequence-end, set, set-end, last}
-use Rattle.rules.proofs.Grammar.Machine.{Group, in-sequence, in-row, in-set, Place, alone, within}
-use Rattle.rules.proofs.Tables.RowMachine.{Sort, Sort-discrete, sort, Line, _↝_, chosen, look, opening-lines, statement-lines, after-lines, lines, Await, t-statement, t-value, t-first, t-set-first, t-in-row, t-row, t-end, t-number, t-units, t-member, Kinds, To, to-none, to, RowRun, row-here, row-by, RowAccepts}
-use Rattle.rules.proofs.Tables.Values.{Within, Valued}
+use Rattle.rules.proofs.Machine.Statements.{Group, in-sequence, in-row, in-set, Place, alone, within}
+use Rattle.rules.proofs.Machine.Rows.{Sort, Sort-discrete, sort, RowLine, _↝_, look, opening-lines, statement-lines, after-lines, lines, Await, t-statement, t-value, t-first, t-set-first, t-in-row, t-row, t-end, t-number, t-units, t-member, Kinds, To, to-none, to, RowRun, row-here, row-by, RowAccepts}
+use Rattle.rules.proofs.Grammar.Each.{chosen-case}
+use Rattle.rules.proofs.Machine.Limits.{Within, Valued}
 
 nought : Whole
 nought = record { minus = false; size = 0 }
@@ -76,17 +77,13 @@ abbrev OkayTo : To → Type 0
 OkayTo to-none = Unit {0}
 OkayTo (to t o) = Okay t o
 
-abbrev OkayLines : List Line → Type 0
+abbrev OkayLines : List RowLine → Type 0
 OkayLines [] = Unit {0}
 OkayLines (k ↝ n ∷ l) = OkayTo n × OkayLines l
 
-chosen-case : {P : Type 0} (d : Dec P) (a b : To) (G : To → Type 0) → G a → G b → G (chosen d a b)
-chosen-case (yes h) a b G f g = f
-chosen-case (no h) a b G f g = g
-
 okay-openings : (o : Kinds) → OkayLines (opening-lines o)
 okay-openings o =
-    (tt, (tt, (chosen-case (decLt (length o) 80) (to t-statement (object ∷ o)) to-none OkayTo tt tt, (chosen-case (decLt (length o) 80) (to t-statement (group ∷ o)) to-none OkayTo tt tt, tt))))
+    (tt, (tt, (chosen-case (decLt (length o) 80) (to t-statement (object ∷ o)) to-none OkayTo (λ h. tt) tt, (chosen-case (decLt (length o) 80) (to t-statement (group ∷ o)) to-none OkayTo (λ h. tt) tt, tt))))
 
 okay-statement : (o : Kinds) → OkayLines (statement-lines o)
 okay-statement [] = (refl, okay-openings [])
@@ -110,9 +107,9 @@ okay-lines (t-number c) o = (tt, okay-lines-after c o)
 okay-lines (t-units c) o = (tt, okay-lines-after c o)
 okay-lines (t-member g) o = okay-lines-after (within g) o
 
-okay-look : (l : List Line) (k : Sort) → OkayLines l → OkayTo (look l k)
+okay-look : (l : List RowLine) (k : Sort) → OkayLines l → OkayTo (look l k)
 okay-look [] k h = tt
-okay-look (j ↝ n ∷ l) k h = chosen-case (Sort-discrete Kind-discrete j k) n (look l k) OkayTo (h .0) (okay-look l k (h .1))
+okay-look (j ↝ n ∷ l) k h = chosen-case (Sort-discrete Kind-discrete j k) n (look l k) OkayTo (λ e. h .0) (okay-look l k (h .1))
 
 pub okay-run : {t t′ : Await} {o o′ : Kinds} {rs : List Row} → RowRun t o rs t′ o′ → Okay t o → Okay t′ o′
 okay-run row-here h = h

@@ -1,4 +1,4 @@
--- Every table is proper or improper, and at one place: a function over a table's bytes gives the verdict, equal to the rules both ways.
+-- Every table is proper or improper, and at one place: the verdict that is computed is the rules', both ways.
 use Prim.Native.Nat.{ℕ, zero, suc, _+_, _≤_, _<_}
 use mathlib.Core.Bool.{Bool, true, false, cond, _&&_, false≢true, true≢false}
 use mathlib.Core.Path.{_≡_, refl, sym, ap, subst, _∙_}
@@ -10,27 +10,19 @@ use Rattle.rules.specs.Data.{Row, attribute, pointer, opened, closed, an
 use Rattle.rules.specs.Table.{encode, table}
 use Rattle.rules.specs.Proper.{Verdict, proper-rows, improper-at, Ruled, is-proper, is-improper}
 use Rattle.rules.proofs.Tables.Tests.{and-true, and-left, and-right}
-use Rattle.rules.proofs.Tables.RowMachine.{sort, Await, t-statement, t-value, t-first, t-set-first, t-in-row, t-row, t-end, t-number, t-units, t-member, Kinds, To, to-none, to, sort-step}
+use Rattle.rules.proofs.Machine.Rows.{sort, Await, t-statement, t-value, t-first, t-set-first, t-in-row, t-row, t-end, t-number, t-units, t-member, Kinds, To, to-none, to, sort-step}
 use Rattle.rules.proofs.Tables.Proper.{Going, going-end}
-use Rattle.rules.proofs.Tables.Decode.{Decoded, nothing, got, decode}
-use Rattle.rules.proofs.Tables.Decoded.{decode-sound}
+use Rattle.rules.proofs.Machine.Decoding.{Decoded, nothing, got, decode}
+use Rattle.rules.proofs.Tables.DecodeSound.{decode-sound}
 use Rattle.rules.proofs.Tables.Once.{improper-once, proper-not-improper, proper-once}
 use Rattle.rules.proofs.Tables.Walk.{Fine, going-start, going-on, going-done, step-at, stop-at}
-use Rattle.rules.proofs.Tables.Checks.{valueTest, value-decides, spanTest, span-decides}
+use Rattle.rules.proofs.Machine.Checks.{valueTest, spanTest}
+use Rattle.rules.proofs.Tables.Decided.{value-decides, span-decides}
+use Rattle.rules.proofs.Machine.Rows.{atEnd}
+use Rattle.rules.proofs.Machine.Splits.{isNil}
+use Rattle.rules.proofs.Machine.Verdicts.{RowStep, stops, steps, stepTo, stepWith, ending, onStep, walk, judgeTable}
 
 -- ---- one row
-
-pub data Step : Type 0 where
-  stops : Step
-  steps : Row → List ℕ → Await → Kinds → Step
-
-abbrev pub stepTo : Row → List ℕ → To → Step
-stepTo r s to-none = stops
-stepTo r s (to t o) = steps r s t o
-
-abbrev pub stepWith : List ℕ → Await → Kinds → Decoded → Step
-stepWith given t o nothing = stops
-stepWith given t o (got r s) = cond (valueTest r && spanTest given r) (stepTo r s (sort-step t o (sort r))) stops
 
 stops-steps : {r : Row} {s : List ℕ} {t : Await} {o : Kinds} → stops ≡ steps r s t o → ⊥
 stops-steps e = let w : _≡_ {A = ℕ} 0 1 = cc in omega arith
@@ -80,37 +72,6 @@ module _ (given : List ℕ) (t : Await) (o : Kinds) where
 
 -- ---- all rows
 
-abbrev pub atEnd : Await → Bool
-atEnd t-statement = false
-atEnd t-value = false
-atEnd t-first = false
-atEnd t-set-first = false
-atEnd t-in-row = false
-atEnd t-row = false
-atEnd t-end = true
-atEnd (t-number c) = false
-atEnd (t-units c) = false
-atEnd (t-member g) = false
-
-abbrev pub noMore : List ℕ → Bool
-noMore [] = true
-noMore (b ∷ s) = false
-
-abbrev pub ending : List Row → Await → List ℕ → Verdict
-ending done t rest = cond (atEnd t && noMore rest) (proper-rows done) (improper-at (length (table done)))
-
-abbrev pub onward : Step → Verdict → (Row → List ℕ → Await → Kinds → Verdict) → Verdict
-onward stops v f = v
-onward (steps r s t o) v f = f r s t o
-
--- the rows done, and the bytes left, fewer than the count
-abbrev pub walk : ℕ → List ℕ → Await → Kinds → List Row → List ℕ → Verdict
-walk zero given t o done rest = improper-at (length (table done))
-walk (suc k) given t o done rest = onward (stepWith given t o (decode rest)) (ending done t rest) (λ r s t′ o′. walk k given t′ o′ (done ++ (r ∷ [])) s)
-
-unfoldable pub judgeTable : List ℕ → List ℕ → Verdict
-judgeTable given lent = walk (suc (length lent)) given t-statement [] [] lent
-
 at-end : (t : Await) → atEnd t ≡ true → t ≡ t-end
 at-end t-statement h = absurd (false≢true h)
 at-end t-value h = absurd (false≢true h)
@@ -123,7 +84,7 @@ at-end (t-number c) h = absurd (false≢true h)
 at-end (t-units c) h = absurd (false≢true h)
 at-end (t-member g) h = absurd (false≢true h)
 
-no-more : (s : List ℕ) → noMore s ≡ true → s ≡ []
+no-more : (s : List ℕ) → isNil s ≡ true → s ≡ []
 no-more [] h = refl
 no-more (b ∷ s) h = absurd (false≢true h)
 
@@ -155,12 +116,12 @@ module _ (given : List ℕ) (l : length given ≤ longest) (lent : List ℕ) whe
 
   ended : {t : Await} {o : Kinds} (done : List Row) (rest : List ℕ) → lent ≡ table done ++ rest → Going given done t o →
       ((r : Row) (s : List ℕ) → decode rest ≡ got r s → (t′ : Await) (o′ : Kinds) → Fine given t o r t′ o′ → ⊥) → Ruled given lent (ending done t rest)
-  ended {t} {o} done rest e g n = go (atEnd t && noMore rest) refl
+  ended {t} {o} done rest e g n = go (atEnd t && isNil rest) refl
     where
-      go : (c : Bool) → (atEnd t && noMore rest) ≡ c → Ruled given lent (cond c (proper-rows done) (improper-at (length (table done))))
+      go : (c : Bool) → (atEnd t && isNil rest) ≡ c → Ruled given lent (cond c (proper-rows done) (improper-at (length (table done))))
       go true h =
-          let a : t ≡ t-end = at-end t (and-left (atEnd t) (noMore rest) h) in
-          let b : rest ≡ [] = no-more rest (and-right (atEnd t) (noMore rest) h) in
+          let a : t ≡ t-end = at-end t (and-left (atEnd t) (isNil rest) h) in
+          let b : rest ≡ [] = no-more rest (and-right (atEnd t) (isNil rest) h) in
           let g′ : Going given done t-end o = subst (λ (x : Await). Going given done x o) a g in
           is-proper (e ∙ ap (λ (s : List ℕ). table done ++ s) b ∙ append-nil (table done)) (going-done given (subst (Going given done t-end) (going-end g′) g′))
       go false h = is-improper (stop-at given short lent done rest e g n (λ a b. true≢false (sym (rw (a, b)) ∙ h)))
@@ -172,9 +133,9 @@ module _ (given : List ℕ) (l : length given ≤ longest) (lent : List ℕ) whe
       turn (stepWith given t o (decode rest)) refl
       (λ r s t′ o′ d f. walk-sound k t′ o′ (done ++ (r ∷ [])) s (omega (arith, fewer-left rest r s d)) (step-at given lent done rest r s e d) (going-on given r g f))
     where
-      turn : (x : Step) → stepWith given t o (decode rest) ≡ x →
+      turn : (x : RowStep) → stepWith given t o (decode rest) ≡ x →
           ((r : Row) (s : List ℕ) (t′ : Await) (o′ : Kinds) → decode rest ≡ got r s → Fine given t o r t′ o′ → Ruled given lent (walk k given t′ o′ (done ++ (r ∷ [])) s)) →
-          Ruled given lent (onward x (ending done t rest) (λ r s t′ o′. walk k given t′ o′ (done ++ (r ∷ [])) s))
+          Ruled given lent (onStep x (ending done t rest) (λ r s t′ o′. walk k given t′ o′ (done ++ (r ∷ [])) s))
       turn stops q ih = ended done rest e g (stopped given t o (decode rest) q)
       turn (steps r s t′ o′) q ih = let p = stepped given t o (decode rest) q in ih r s t′ o′ (p .0) (p .1)
 

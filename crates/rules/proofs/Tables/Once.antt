@@ -1,25 +1,29 @@
 -- Tables in one way only: the rows of a proper table are its own, the place of code 12 is one place, and a proper table has none.
-use Prim.Native.Nat.{ℕ, _<_}
+use Prim.Native.Nat.{ℕ, _^_, _≤_, _<_}
 use mathlib.Core.Path.{_≡_, refl, sym, ap, ap₂, _∙_, subst}
 use mathlib.Core.List.{List, [], _∷_, _++_, append-assoc, append-nil}
 use native.Mathlib.Omega.{arith}
 use lib.ListN.{length}
 use Rattle.rules.specs.Proper.{Each, none, one, Held, Holds, Proper, Begins, Improper}
-use Rattle.rules.specs.Data.{Span, Moment, Row, attribute, pointer, opened, closed, an-integer, a-real, a-moment, a-text, a-symbol, a-unit, sequence, sequence-end, set, set-end, last}
+use Rattle.rules.specs.Data.{Span, Whole, Moment, Row, attribute, pointer, opened, closed, an-integer, a-real, a-moment, a-text, a-symbol, a-unit, sequence, sequence-end, set, set-end, last}
 use Rattle.rules.specs.Table.{encode, table}
-use Rattle.rules.proofs.Tables.Values.{Within, MomentHeld, date-alone, time-alone, date-and-time, Valued}
+use Rattle.rules.proofs.Machine.Limits.{Within, MomentHeld, date-alone, time-alone, date-and-time, Valued, Codes, Short}
 use Rattle.rules.proofs.Tables.Proper.{begins→going}
-use Rattle.rules.proofs.Tables.Decode.{Codes, Short, encode-one, encode-some}
+use Rattle.rules.proofs.Tables.DecodeComplete.{encode-one, encode-some}
 
 short : (Allowed : List ℕ → Type 0) (given : List ℕ) (p : Span) → length given < 65536 → Held Allowed given p → Short p
 short Allowed given p l h = record { from-short = omega (arith, h .ordered, h .inside); upto-short = omega (arith, h .inside) }
 
+-- below a wider limit too
+wider : (limit : ℕ) {most : ℕ} {w : Whole} → Within most w → most ≤ limit → Within limit w
+wider limit h l = record { below = omega (arith, h .below, l); zero-plain = h .zero-plain }
+
 moment-codes : (t : Moment) → MomentHeld t → Codes (a-moment t)
 moment-codes t (date-alone p d u) =
-    let z : Within 780 (t .offset) = rw (u .offset) (record { below = omega arith; zero-plain = λ e. refl }) in
+    let z : Within (2 ^ 15) (t .offset) = rw (u .offset) (record { below = omega arith; zero-plain = λ e. refl }) in
     (omega (arith, d .year-most), omega (arith, u .nanoseconds), z)
-moment-codes t (time-alone p u m) = (omega (arith, u .year), m .nanoseconds-most, m .offset-most)
-moment-codes t (date-and-time p d m) = (omega (arith, d .year-most), m .nanoseconds-most, m .offset-most)
+moment-codes t (time-alone p u m) = (omega (arith, u .year), omega (arith, m .nanoseconds-most), wider (2 ^ 15) (m .offset-most) (omega arith))
+moment-codes t (date-and-time p d m) = (omega (arith, d .year-most), omega (arith, m .nanoseconds-most), wider (2 ^ 15) (m .offset-most) (omega arith))
 
 module _ (given : List ℕ) (l : length given < 65536) where
   pub codes : (r : Row) → Valued r → Holds given r → Codes r
@@ -28,11 +32,11 @@ module _ (given : List ℕ) (l : length given < 65536) where
   codes (opened k p) v h = short _ given p l h
   codes (closed k) v h = tt
   codes (an-integer w) v h = v
-  codes (a-real x) v h = v
+  codes (a-real x) v h = (wider (2 ^ 63) (v .number) (omega arith), wider (2 ^ 15) (v .power) (omega arith))
   codes (a-moment t) v h = moment-codes t v
   codes (a-text p) v h = short _ given p l h
   codes (a-symbol p) v h = short _ given p l h
-  codes (a-unit op p w) v h = (short _ given p l h, v)
+  codes (a-unit op p w) v h = (short _ given p l h, wider (2 ^ 7) v (omega arith))
   codes sequence v h = tt
   codes sequence-end v h = tt
   codes set v h = tt

@@ -10,20 +10,20 @@ use Rattle.rules.specs.Grammar.{strict, Label}
 use Rattle.rules.specs.Reading.{accepted, follows, Reads, read}
 use Rattle.rules.specs.Proper.{Ruled, is-proper, proper-rows, stretch, NameWord, TextBody, SymbolBody, Held, Holds, Each, none, one, Proper}
 use Rattle.rules.proofs.Words.Runs.{all-run}
-use Rattle.rules.proofs.Reading.Rows.{From, from-attribute, from-pointer, from-opened, from-closed, from-integer, from-based, from-low, from-high, from-real, from-moment, from-text, from-symbol, from-identifier, from-unit, from-sequence, from-sequence-end, from-set, from-set-end, from-end, Rooted, no-row-more, _and_}
-use Rattle.rules.proofs.Reading.Stretches.{holds-word, holds-text, holds-symbol, Stands, rows-stand}
+use Rattle.rules.proofs.Reading.FromElements.{FromElement, from-attribute, from-pointer, from-opened, from-closed, from-integer, from-based, from-low, from-high, from-real, from-moment, from-text, from-symbol, from-identifier, from-unit, from-sequence, from-sequence-end, from-set, from-set-end, from-end, Rooted, no-row-more, _and_}
+use Rattle.rules.proofs.Reading.Stretches.{holds-word, holds-text, holds-symbol, InLabel, rows-stand}
 use Rattle.rules.proofs.Reading.Stretches as Stretches
 use Rattle.rules.proofs.Tables.Contents.{form-name, name-test, name-symbol, symbol-body}
-use Rattle.rules.proofs.Tables.CutValues.{form-worded, cut-possible}
+use Rattle.rules.proofs.Tables.ElementLimits.{form-worded, cut-possible}
 use Rattle.rules.proofs.Tables.RowOrder.{rows-complete}
-use Rattle.rules.proofs.Tables.RowValues.{rows-valued}
+use Rattle.rules.proofs.Tables.RowLimits.{rows-valued}
 use Rattle.rules.proofs.Tables.Proper.{proper}
 
 -- ---- what an element's span holds is what the row's kind allows; no word is a text or a quoted symbol
 
 module _ (m : Mode) where
   abbrev In : Elem → List ℕ → Type 0
-  In e w = Stretches.Holds m e w
+  In e w = Stretches.SpanHolds m e w
 
   name-in : {n : Name} {w : List ℕ} → In (name n) w → NameWord w
   name-in {w = w} (holds-word {off = off} f) = name-test w .1 (form-name m off w f)
@@ -40,10 +40,10 @@ module _ (m : Mode) where
   name-symbol-in {w = w} h = symbol-body w .1 (name-symbol w (name-test w .0 (name-in h)))
 
   module _ (label : List ℕ) where
-    held-as : {e : Elem} {p : Span} (Allowed : List ℕ → Type 0) → (In e (stretch label p) → Allowed (stretch label p)) → Stands m label e p → Held Allowed label p
+    held-as : {e : Elem} {p : Span} (Allowed : List ℕ → Type 0) → (In e (stretch label p) → Allowed (stretch label p)) → InLabel m label e p → Held Allowed label p
     held-as Allowed f h = record { ordered = h .order; inside = h .inside; content = f (h .content) }
 
-    row-holds : {r : Row} → From (Stands m label) r → Holds label r
+    row-holds : {r : Row} → FromElement (InLabel m label) r → Holds label r
     row-holds (from-attribute h) = held-as NameWord name-in h
     row-holds (from-pointer h) = held-as NameWord name-in h
     row-holds (from-opened k h) = held-as NameWord name-in h
@@ -64,7 +64,7 @@ module _ (m : Mode) where
     row-holds from-set-end = tt
     row-holds (from-end h) = h .inside
 
-    rows-hold : {rows : List Row} → Rooted (Stands m label) rows → Each (Holds label) rows
+    rows-hold : {rows : List Row} → Rooted (InLabel m label) rows → Each (Holds label) rows
     rows-hold no-row-more = none
     rows-hold (h and t) = one (row-holds h) (rows-hold t)
 

@@ -8,16 +8,16 @@ use Rattle.rules.specs.Written.{start, canonical}
 use Rattle.rules.specs.Data.{outside, Row}
 use Rattle.rules.specs.Meaning.{meaning}
 use Rattle.rules.proofs.Written.Pieces.{writtenPieces}
-use Rattle.rules.proofs.Tables.RowMachine.{Await, t-statement, t-end, Kinds, RowRun, row-here, row-by, RowAccepts}
-use Rattle.rules.proofs.Tables.Values.{Valued}
+use Rattle.rules.proofs.Machine.Rows.{Await, t-statement, t-end, Kinds, RowRun, row-here, row-by, RowAccepts}
+use Rattle.rules.proofs.Machine.Limits.{Valued}
 use Rattle.rules.proofs.Tables.RowOrder.{rows-complete}
 use Rattle.rules.proofs.Tables.Tests.{each-left, each-append}
-use Rattle.rules.proofs.Tables.RowValues.{rows-valued}
+use Rattle.rules.proofs.Tables.RowLimits.{rows-valued}
 use Rattle.rules.proofs.Written.Place.{place, skip, laid}
 use Rattle.rules.proofs.Written.Aside.{aside-meaning, aside-laid, alike-values, alike-run}
 use Rattle.rules.proofs.Written.Clean.{clean-meaning}
 use Rattle.rules.proofs.Written.Writing.{written-label}
-use Rattle.rules.proofs.Tables.CutValues.{cut-possible}
+use Rattle.rules.proofs.Tables.ElementLimits.{cut-possible}
 use Rattle.rules.proofs.Written.Spelling.{written-cut}
 use Rattle.rules.proofs.Tables.Endings.{ending, okay-run, ending-runs, ending-sits}
 
@@ -67,7 +67,7 @@ pub record Going (given : List ℕ) (rs : List Row) (t : Await) (o : Kinds) : Ty
   pub values : Each Valued rs
   pub spans : Each (Holds given) rs
 
-run-append : {t t′ t″ : Await} {o o′ o″ : Kinds} {rs qs : List Row} → RowRun t o rs t′ o′ → RowRun t′ o′ qs t″ o″ → RowRun t o (rs ++ qs) t″ o″
+pub run-append : {t t′ t″ : Await} {o o′ o″ : Kinds} {rs qs : List Row} → RowRun t o rs t′ o′ → RowRun t′ o′ qs t″ o″ → RowRun t o (rs ++ qs) t″ o″
 run-append row-here b = b
 run-append (row-by e a) b = row-by e (run-append a b)
 

@@ -7,12 +7,13 @@ use lib.ListN.{length}
 use Rattle.rules.specs.Data.{Span, Placed, Kind, Kind-discrete, object, group, Op, Row, opened, closed, sequence-end}
 use Rattle.rules.specs.Modes.{Mode}
 use Rattle.rules.specs.Grammar.{strict, Factor, factor, Factors, no-factor, by-times, by-divided, Units, no-units, units, Scalar, integer-value, based-value, real-value, date-time-value, text-value, symbol-value, identifier-value, Scalars, no-scalar, and-scalar, Sequence1, sequence-1D, Rows, no-row, and-row, one-dimension, sequence-2D, set-of, empty-set, Value, scalar-value, sequence-value, set-value, range-value, Statements, no-statement, and-statement, assignment, pointing, block, Label, label}
-use Rattle.rules.proofs.Grammar.Machine.{Group, in-sequence, in-row, in-set, Place, alone, within}
-use Rattle.rules.proofs.Tables.RowMachine.{Sort, s-attribute, s-pointer, s-number, s-other, s-unit-first, s-unit-more, s-sequence, s-opened, s-closed, Sort-discrete, unit-sort, sort, Await, t-statement, t-value, t-first, t-set-first, t-in-row, t-row, t-number, t-units, t-member, Kinds, To, to-none, to, Line, chosen, look, t-after, scalar-lines, end-lines, after-lines, lines, sort-step, row-here, row-by, RowAccepts, none-to}
+use Rattle.rules.proofs.Machine.Statements.{Group, in-sequence, in-row, in-set, Place, alone, within, chosen}
+use Rattle.rules.proofs.Machine.Rows.{Sort, s-attribute, s-pointer, s-number, s-other, s-unit-first, s-unit-more, s-sequence, s-opened, s-closed, Sort-discrete, unit-sort, sort, Await, t-statement, t-value, t-first, t-set-first, t-in-row, t-row, t-number, t-units, t-member, Kinds, To, to-none, to, RowLine, look, t-after, scalar-lines, end-lines, after-lines, lines, sort-step, row-here, row-by, RowAccepts}
+use Rattle.rules.proofs.Tables.RowRuns.{none-to}
 
 -- ---- the order of the rows
 
-look-kept : (j k : Sort) (n : To) (l : List Line) → look l j ≡ to-none → {t : Await} {o : Kinds} → look l k ≡ to t o → (d : Dec (j ≡ k)) → chosen d n (look l k) ≡ to t o
+look-kept : (j k : Sort) (n : To) (l : List RowLine) → look l j ≡ to-none → {t : Await} {o : Kinds} → look l k ≡ to t o → (d : Dec (j ≡ k)) → chosen d n (look l k) ≡ to t o
 look-kept j k n l h e (yes i) = absurd (none-to (sym h ∙ ap (look l) i ∙ e))
 look-kept j k n l h e (no i) = e
 
@@ -49,15 +50,15 @@ module _ (m : Mode) where
   units-rows c {o} (units q f fs) a = row-by (ap (look (lines (t-number c) o)) (factor-sorted f)) (factors-rows c fs a)
 
   -- a scalar, where its lines stand first
-  scalar-rows : (t : Await) (c : Place) (o : Kinds) (l : List Line) → lines t o ≡ scalar-lines c o l →
+  scalar-rows : (t : Await) (c : Place) (o : Kinds) (l : List RowLine) → lines t o ≡ scalar-lines c o l →
       {xs : List Placed} {rs qs : List Row} → Scalar m strict xs rs → RowAccepts (t-after c) o qs → RowAccepts t o (rs ++ qs)
-  scalar-rows t c o l h (integer-value {w} u) a = row-by (ap (λ (k : List Line). look k s-number) h) (units-rows c u a)
-  scalar-rows t c o l h (based-value {w} u) a = row-by (ap (λ (k : List Line). look k s-number) h) (units-rows c u a)
-  scalar-rows t c o l h (real-value {x} u) a = row-by (ap (λ (k : List Line). look k s-number) h) (units-rows c u a)
-  scalar-rows t c o l h date-time-value a = row-by (ap (λ (k : List Line). look k s-other) h) a
-  scalar-rows t c o l h text-value a = row-by (ap (λ (k : List Line). look k s-other) h) a
-  scalar-rows t c o l h symbol-value a = row-by (ap (λ (k : List Line). look k s-other) h) a
-  scalar-rows t c o l h identifier-value a = row-by (ap (λ (k : List Line). look k s-other) h) a
+  scalar-rows t c o l h (integer-value {w} u) a = row-by (ap (λ (k : List RowLine). look k s-number) h) (units-rows c u a)
+  scalar-rows t c o l h (based-value {w} u) a = row-by (ap (λ (k : List RowLine). look k s-number) h) (units-rows c u a)
+  scalar-rows t c o l h (real-value {x} u) a = row-by (ap (λ (k : List RowLine). look k s-number) h) (units-rows c u a)
+  scalar-rows t c o l h date-time-value a = row-by (ap (λ (k : List RowLine). look k s-other) h) a
+  scalar-rows t c o l h text-value a = row-by (ap (λ (k : List RowLine). look k s-other) h) a
+  scalar-rows t c o l h symbol-value a = row-by (ap (λ (k : List RowLine). look k s-other) h) a
+  scalar-rows t c o l h identifier-value a = row-by (ap (λ (k : List RowLine). look k s-other) h) a
 
   scalars-rows : (g : Group) {o : Kinds} {xs : List Placed} {rs qs : List Row} → Scalars m strict xs rs → RowAccepts (t-member g) o qs → RowAccepts (t-member g) o (rs ++ qs)
   scalars-rows g no-scalar a = a

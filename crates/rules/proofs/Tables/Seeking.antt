@@ -1,31 +1,28 @@
--- The rows from an offset on and the lookup over them, as functions; and that the rows of a proper table have an answer to every lookup.
-use Prim.Native.Nat.{ℕ, zero, suc, _+_, _-_, _<_}
+-- The rows from an offset on and the lookup over them are as the rules say; and the rows of a proper table have an answer to every lookup.
+use Prim.Native.Nat.{ℕ, suc, _+_, _-_, _<_}
 use native.Mathlib.Decide.{decLt}
 use mathlib.Core.Path.{_≡_, refl, sym, ap, subst, _∙_}
 use mathlib.Core.Bool.{Bool, true, false, cond, false≢true, true≢false}
-use mathlib.Core.List.{List, [], _∷_, _++_, append-assoc}
+use mathlib.Core.List.{List, [], _∷_, _++_, append-assoc, nil≢cons}
 use native.Mathlib.Omega.{arith}
-use borrow.Author.Tests.{eq-eqb, ne-eqb, le-leb, leb-true, eqb-true}
+use borrow.Author.Tests.{ne-eqb, le-leb, leb-true, eqb-true}
 use lib.Dec.{leb, eqb}
 use lib.ListN.{length, length-append}
 use Rattle.rules.specs.Data.{Span, Kind, Kind-discrete, object, group, Op, first, times, divided, Row, attribute, pointer, opened, closed, an-integer, a-real, a-moment, a-text, a-symbol, a-unit, sequence, sequence-end, set, set-end, last}
 use Rattle.rules.specs.Table.{encode, table}
-use Rattle.rules.specs.Values.{same}
-use Rattle.rules.specs.Proper.{stretch, Each, none, one, Proper}
+use Rattle.rules.specs.Proper.{Each, none, one, Proper}
 use Rattle.rules.specs.Meaning.{foldAll}
 use Rattle.rules.specs.Asked.{From, here, later, Flat, flat-attribute, flat-pointer, flat-integer, flat-real, flat-moment, flat-text, flat-symbol, flat-unit, flat-sequence, flat-sequence-end, flat-set, flat-set-end, Inner, no-row, and-flat, and-block, Called, Finding, stands, absent, Looks, found, passed, passed-whole, block-ends, table-ends}
-use Rattle.rules.proofs.Grammar.Machine.{Group, in-sequence, in-row, in-set, Place, alone, within}
-use Rattle.rules.proofs.Tables.RowMachine.{Sort, Sort-discrete, unit-sort, s-attribute, s-pointer, s-number, s-other, s-unit-first, s-unit-more, s-sequence, s-sequence-end, s-set, s-set-end, s-last, s-opened, s-closed, sort, Await, t-statement, t-value, t-first, t-set-first, t-in-row, t-row, t-end, t-number, t-units, t-member, Kinds, To, to-none, to, Line, _↝_, chosen, look, t-after, lines, opening-lines, statement-lines, end-lines, after-lines, sort-step, RowRun, row-here, row-by, none-to}
-use Rattle.rules.proofs.Tables.Tests.{and-left, and-right}
+use Rattle.rules.proofs.Machine.Statements.{Group, in-sequence, in-row, in-set, Place, alone, within, chosen}
+use Rattle.rules.proofs.Machine.Rows.{Sort, Sort-discrete, unit-sort, s-attribute, s-pointer, s-number, s-other, s-unit-first, s-unit-more, s-sequence, s-sequence-end, s-set, s-set-end, s-last, s-opened, s-closed, sort, Await, t-statement, t-value, t-first, t-set-first, t-in-row, t-row, t-end, t-number, t-units, t-member, Kinds, To, to-none, to, RowLine, _↝_, look, t-after, lines, opening-lines, statement-lines, end-lines, after-lines, sort-step, RowRun, row-here, row-by, atEnd}
+use Rattle.rules.proofs.Tables.RowRuns.{none-to}
+use Rattle.rules.proofs.Tables.Tests.{same-true, true-same}
 use Rattle.rules.proofs.Tables.Proper.{proper}
 use Rattle.rules.proofs.Tables.Walk.{table-append}
-use Rattle.rules.proofs.Tables.Judge.{atEnd, encode-size}
+use Rattle.rules.proofs.Tables.Judge.{encode-size}
+use Rattle.rules.proofs.Machine.Lookup.{fromOf, Way, names, plain, way, byWay, hasName, seeks}
 
 -- ---- the rows from an offset on; none where no row starts there
-
-unfoldable pub fromOf : ℕ → List Row → List Row
-fromOf n [] = []
-fromOf n (r ∷ rs) = cond (eqb n 0) (r ∷ rs) (cond (leb (length (encode r)) n) (fromOf (n - length (encode r)) rs) [])
 
 pub from-later : (n : ℕ) (r : Row) (rs : List Row) → fromOf (length (encode r) + n) (r ∷ rs) ≡ fromOf n rs
 unfolding fromOf
@@ -39,12 +36,9 @@ from-is {rs = []} here = refl
 from-is {rs = r ∷ rs} here = refl
 from-is (later {n = n} {r = r} {rs = rs} f) = from-later n r rs ∙ from-is f
 
-some-row : {r : Row} {qs : List Row} → _≡_ {A = List Row} [] (r ∷ qs) → ⊥
-some-row e = let w : _≡_ {A = ℕ} 0 1 = cc in omega arith
-
 pub from-there : (n : ℕ) (rs : List Row) {r : Row} {qs : List Row} → fromOf n rs ≡ r ∷ qs → From n rs (r ∷ qs)
 unfolding fromOf
-from-there n [] e = absurd (some-row e)
+from-there n [] e = absurd (nil≢cons e)
 from-there n (x ∷ rs) {r} {qs} e = go (λ e. from-there (n - length (encode x)) rs e) (eqb n 0) refl e
   where
     deeper : (fromOf (n - length (encode x)) rs ≡ r ∷ qs → From (n - length (encode x)) rs (r ∷ qs)) → (c : Bool) → leb (length (encode x)) n ≡ c →
@@ -52,7 +46,7 @@ from-there n (x ∷ rs) {r} {qs} e = go (λ e. from-there (n - length (encode x)
     deeper ih true h e =
         let m : length (encode x) + (n - length (encode x)) ≡ n = omega (arith, leb-true (length (encode x)) n h) in
         subst (λ (i : ℕ). From i (x ∷ rs) (r ∷ qs)) m (later (ih e))
-    deeper ih false h e = absurd (some-row e)
+    deeper ih false h e = absurd (nil≢cons e)
 
     go : (fromOf (n - length (encode x)) rs ≡ r ∷ qs → From (n - length (encode x)) rs (r ∷ qs)) → (c : Bool) → eqb n 0 ≡ c →
         cond c (x ∷ rs) (cond (leb (length (encode x)) n) (fromOf (n - length (encode x)) rs) []) ≡ r ∷ qs → From n (x ∷ rs) (r ∷ qs)
@@ -60,49 +54,6 @@ from-there n (x ∷ rs) {r} {qs} e = go (λ e. from-there (n - length (encode x)
     go ih false h e = deeper ih (leb (length (encode x)) n) refl e
 
 -- ---- the lookup
-
--- rows by what the lookup does with them
-pub data Way : Type 0 where
-  names : Span → Way
-  plain opens closes ends : Way
-
-abbrev pub way : Row → Way
-way (attribute p) = names p
-way (pointer p) = plain
-way (opened k p) = opens
-way (closed k) = closes
-way (an-integer w) = plain
-way (a-real x) = plain
-way (a-moment t) = plain
-way (a-text p) = plain
-way (a-symbol p) = plain
-way (a-unit op p w) = plain
-way sequence = plain
-way sequence-end = plain
-way set = plain
-way set-end = plain
-way (last n) = ends
-
-abbrev pub byWay : {A : Type 0} → Way → (Span → A) → A → A → A → A → A
-byWay (names p) f a b c d = f p
-byWay plain f a b c d = a
-byWay opens f a b c d = b
-byWay closes f a b c d = c
-byWay ends f a b c d = d
-
--- the attribute has this name
-abbrev pub isName : List ℕ → List ℕ → Span → Bool
-isName label name p = same (foldAll (stretch label p)) (foldAll name)
-
--- in how many blocks that opened since the row asked for, and at which offset
-unfoldable pub seeks : List ℕ → List ℕ → ℕ → ℕ → List Row → Finding
-seeks label name d at [] = absent
-seeks label name zero at (r ∷ rs) =
-    byWay (way r) (λ p. cond (isName label name p) (stands at) (seeks label name 0 (at + length (encode r)) rs))
-    (seeks label name 0 (at + length (encode r)) rs) (seeks label name 1 (at + length (encode r)) rs) absent absent
-seeks label name (suc d) at (r ∷ rs) =
-    byWay (way r) (λ p. seeks label name (suc d) (at + length (encode r)) rs)
-    (seeks label name (suc d) (at + length (encode r)) rs) (seeks label name (suc (suc d)) (at + length (encode r)) rs) (seeks label name d (at + length (encode r)) rs) absent
 
 flat-case : {r : Row} (P : Way → Type 0) → Flat r → ((p : Span) → r ≡ attribute p → P (names p)) → P plain → P (way r)
 flat-case P (flat-attribute {p = p}) f g = f p refl
@@ -124,25 +75,15 @@ plain-names e = let w : _≡_ {A = ℕ} 0 1 = cc in omega arith
 same-span : {p q : Span} → _≡_ {A = Row} (attribute p) (attribute q) → p ≡ q
 same-span e = cc
 
-pub same-true : (s t : List ℕ) → same s t ≡ true → s ≡ t
-same-true [] [] h = refl
-same-true [] (b ∷ t) h = absurd (false≢true h)
-same-true (a ∷ s) [] h = absurd (false≢true h)
-same-true (a ∷ s) (b ∷ t) h = let e = eqb-true a b (and-left (eqb a b) (same s t) h) in let f = same-true s t (and-right (eqb a b) (same s t) h) in rw (e, f)
-
-pub true-same : (s : List ℕ) → same s s ≡ true
-true-same [] = refl
-true-same (a ∷ s) = rw (eq-eqb a a refl) (true-same s)
-
 module _ (label name : List ℕ) where
-  isnt : {r : Row} {p : Span} → r ≡ attribute p → (Called label name r → ⊥) → isName label name p ≡ false
-  isnt {r} {p} e n = go (isName label name p) refl
+  isnt : {r : Row} {p : Span} → r ≡ attribute p → (Called label name r → ⊥) → hasName label name p ≡ false
+  isnt {r} {p} e n = go (hasName label name p) refl
     where
-      go : (c : Bool) → isName label name p ≡ c → c ≡ false
+      go : (c : Bool) → hasName label name p ≡ c → c ≡ false
       go true h = absurd (n (p, e, same-true _ _ h))
       go false h = refl
 
-  named-not : (r : Row) (p : Span) → r ≡ attribute p → isName label name p ≡ false → Called label name r → ⊥
+  named-not : (r : Row) (p : Span) → r ≡ attribute p → hasName label name p ≡ false → Called label name r → ⊥
   named-not r p e h (p′, e′, f) = let q : p ≡ p′ = same-span (sym e ∙ e′) in true≢false (sym (rw (q, f) (true-same (foldAll name))) ∙ h)
 
   plain-not : (r : Row) → way r ≡ plain → Called label name r → ⊥
@@ -156,7 +97,7 @@ module _ (label name : List ℕ) where
   unfolding seeks
   seeks-passed at r rs h n =
       let z : Finding = seeks label name 0 (at + length (encode r)) rs in
-      flat-case (λ (w : Way). byWay w (λ p. cond (isName label name p) (stands at) z) z (seeks label name 1 (at + length (encode r)) rs) absent absent ≡ z) h
+      flat-case (λ (w : Way). byWay w (λ p. cond (hasName label name p) (stands at) z) z (seeks label name 1 (at + length (encode r)) rs) absent absent ≡ z) h
       (λ p e. rw (isnt e n)) refl
 
   seeks-flat : (d at : ℕ) (r : Row) (rs : List Row) → Flat r → seeks label name (suc d) at (r ∷ rs) ≡ seeks label name (suc d) (at + length (encode r)) rs
@@ -192,11 +133,11 @@ module _ (label name : List ℕ) where
 -- ---- the blocks of rows, and that each is closed
 
 -- these kinds of blocks are open, the innermost first, and the rows close them all before the last row
-pub data Closing : Kinds → List Row → Type 0 where
-  the-last : {n : ℕ} {rs : List Row} → Closing [] (last n ∷ rs)
-  flat : {o : Kinds} {r : Row} {rs : List Row} → Flat r → Closing o rs → Closing o (r ∷ rs)
-  opening : {o : Kinds} {k : Kind} {p : Span} {rs : List Row} → Closing (k ∷ o) rs → Closing o (opened k p ∷ rs)
-  closing : {o : Kinds} {k : Kind} {rs : List Row} → Closing o rs → Closing (k ∷ o) (closed k ∷ rs)
+pub data ClosesAll : Kinds → List Row → Type 0 where
+  the-last : {n : ℕ} {rs : List Row} → ClosesAll [] (last n ∷ rs)
+  flat : {o : Kinds} {r : Row} {rs : List Row} → Flat r → ClosesAll o rs → ClosesAll o (r ∷ rs)
+  opening : {o : Kinds} {k : Kind} {p : Span} {rs : List Row} → ClosesAll (k ∷ o) rs → ClosesAll o (opened k p ∷ rs)
+  closing : {o : Kinds} {k : Kind} {rs : List Row} → ClosesAll o rs → ClosesAll (k ∷ o) (closed k ∷ rs)
 
 -- how a row's sort changes the open blocks; only the last row ends
 abbrev isFlat : Sort → Bool
@@ -221,10 +162,10 @@ data Fit : Sort → Kinds → To → Type 0 where
   fit-close : {k : Kind} {o : Kinds} {t : Await} → atEnd t ≡ false → Fit (s-closed k) (k ∷ o) (to t o)
   fit-last : {o : Kinds} → Fit s-last [] (to t-end o)
 
-abbrev Fits : Kinds → Line → Type 0
+abbrev Fits : Kinds → RowLine → Type 0
 Fits o (s ↝ n) = Fit s o n
 
-fit-look : (o : Kinds) (ls : List Line) (s : Sort) → Each (Fits o) ls → Fit s o (look ls s)
+fit-look : (o : Kinds) (ls : List RowLine) (s : Sort) → Each (Fits o) ls → Fit s o (look ls s)
 fit-look o [] s none = no-fit
 fit-look o (j ↝ n ∷ ls) s (one f fs) = go (Sort-discrete Kind-discrete j s) (fit-look o ls s fs)
   where
@@ -247,7 +188,7 @@ fit-statement : (o : Kinds) → Each (Fits o) (statement-lines o)
 fit-statement [] = one fit-last (fit-opening [])
 fit-statement (k ∷ o) = one (fit-close refl) (fit-opening (k ∷ o))
 
-fit-scalar : (c : Place) (o : Kinds) {ls : List Line} → Each (Fits o) ls → Each (Fits o) (s-number ↝ to (t-number c) o ∷ s-other ↝ to (t-after c) o ∷ ls)
+fit-scalar : (c : Place) (o : Kinds) {ls : List RowLine} → Each (Fits o) ls → Each (Fits o) (s-number ↝ to (t-number c) o ∷ s-other ↝ to (t-after c) o ∷ ls)
 fit-scalar c o f = one (fit-flat refl refl) (one (fit-flat refl (after-goes c)) f)
 
 fit-end : (g : Group) (o : Kinds) → Each (Fits o) (end-lines g o)
@@ -283,24 +224,24 @@ fit-same h (fit-close e) = absurd (false≢true h)
 fit-same h fit-last = absurd (false≢true h)
 
 abbrev Rest : Await → Kinds → List Row → Type 0
-Rest t o rs = atEnd t ≡ false → Closing o rs
+Rest t o rs = atEnd t ≡ false → ClosesAll o rs
 
-flat-step : {t : Await} {o o′ : Kinds} {r : Row} {rs : List Row} → Flat r → isFlat (sort r) ≡ true → Fit (sort r) o (to t o′) → Rest t o′ rs → Closing o (r ∷ rs)
-flat-step {rs = rs} h e f rest = let g = fit-same e f in flat h (subst (λ (i : Kinds). Closing i rs) (g .0) (rest (g .1)))
+flat-step : {t : Await} {o o′ : Kinds} {r : Row} {rs : List Row} → Flat r → isFlat (sort r) ≡ true → Fit (sort r) o (to t o′) → Rest t o′ rs → ClosesAll o (r ∷ rs)
+flat-step {rs = rs} h e f rest = let g = fit-same e f in flat h (subst (λ (i : Kinds). ClosesAll i rs) (g .0) (rest (g .1)))
 
-open-step : {t : Await} {o o′ : Kinds} {k : Kind} {p : Span} {rs : List Row} → Fit (s-opened k) o (to t o′) → Rest t o′ rs → Closing o (opened k p ∷ rs)
+open-step : {t : Await} {o o′ : Kinds} {k : Kind} {p : Span} {rs : List Row} → Fit (s-opened k) o (to t o′) → Rest t o′ rs → ClosesAll o (opened k p ∷ rs)
 open-step (fit-flat f e) rest = absurd (false≢true f)
 open-step (fit-open e) rest = opening (rest e)
 
-close-step : {t : Await} {o o′ : Kinds} {k : Kind} {rs : List Row} → Fit (s-closed k) o (to t o′) → Rest t o′ rs → Closing o (closed k ∷ rs)
+close-step : {t : Await} {o o′ : Kinds} {k : Kind} {rs : List Row} → Fit (s-closed k) o (to t o′) → Rest t o′ rs → ClosesAll o (closed k ∷ rs)
 close-step (fit-flat f e) rest = absurd (false≢true f)
 close-step (fit-close e) rest = closing (rest e)
 
-last-step : {t : Await} {o o′ : Kinds} {n : ℕ} {rs : List Row} → Fit s-last o (to t o′) → Closing o (last n ∷ rs)
+last-step : {t : Await} {o o′ : Kinds} {n : ℕ} {rs : List Row} → Fit s-last o (to t o′) → ClosesAll o (last n ∷ rs)
 last-step (fit-flat f e) = absurd (false≢true f)
 last-step fit-last = the-last
 
-closing-step : (r : Row) {t : Await} {o o′ : Kinds} {rs : List Row} → Fit (sort r) o (to t o′) → Rest t o′ rs → Closing o (r ∷ rs)
+closing-step : (r : Row) {t : Await} {o o′ : Kinds} {rs : List Row} → Fit (sort r) o (to t o′) → Rest t o′ rs → ClosesAll o (r ∷ rs)
 closing-step (attribute p) f g = flat-step flat-attribute refl f g
 closing-step (pointer p) f g = flat-step flat-pointer refl f g
 closing-step (opened k p) f g = open-step f g
@@ -317,7 +258,7 @@ closing-step set f g = flat-step flat-set refl f g
 closing-step set-end f g = flat-step flat-set-end refl f g
 closing-step (last n) f g = last-step f
 
-run-closing : (rs : List Row) {t : Await} {o : Kinds} → RowRun t o rs t-end [] → atEnd t ≡ false → Closing o rs
+run-closing : (rs : List Row) {t : Await} {o : Kinds} → RowRun t o rs t-end [] → atEnd t ≡ false → ClosesAll o rs
 run-closing [] row-here h = absurd (true≢false h)
 run-closing (r ∷ rs) {t} {o} (row-by e a) h =
     closing-step r (subst (Fit (sort r) o) e (fit-look o (lines t o) (sort r) (fit-lines t o))) (run-closing rs a)
@@ -335,7 +276,7 @@ goes-on (t-number c) o s e = refl
 goes-on (t-units c) o s e = refl
 goes-on (t-member g) o s e = refl
 
-from-closing : {n : ℕ} {rows : List Row} {r : Row} {qs : List Row} {t : Await} {o : Kinds} → From n rows (r ∷ qs) → RowRun t o rows t-end [] → (o′ : Kinds) × Closing o′ (r ∷ qs)
+from-closing : {n : ℕ} {rows : List Row} {r : Row} {qs : List Row} {t : Await} {o : Kinds} → From n rows (r ∷ qs) → RowRun t o rows t-end [] → (o′ : Kinds) × ClosesAll o′ (r ∷ qs)
 from-closing {rows = r ∷ qs} {t = t} {o = o} here (row-by e a) = (o, run-closing (r ∷ qs) {t = t} (row-by e a) (goes-on t o (sort r) e))
 from-closing (later f) (row-by e a) = from-closing f a
 
@@ -355,12 +296,12 @@ module _ (label name : List ℕ) where
   answer (k ∷ o) rs a = a .0
 
   flat-answer : {r : Row} {rs : List Row} → Flat r → Answer rs → Answer (r ∷ rs)
-  flat-answer {r} {rs} h a at = flat-case (λ (w : Way). way r ≡ w → (z : Finding) × Looks label name at (r ∷ rs) z) h (λ p e q. named p e (isName label name p) refl) (λ q. on (plain-not label name r q)) refl
+  flat-answer {r} {rs} h a at = flat-case (λ (w : Way). way r ≡ w → (z : Finding) × Looks label name at (r ∷ rs) z) h (λ p e q. named p e (hasName label name p) refl) (λ q. on (plain-not label name r q)) refl
     where
       on : (Called label name r → ⊥) → (z : Finding) × Looks label name at (r ∷ rs) z
       on n = let b = a (at + length (encode r)) in (b .0, passed h n (b .1))
 
-      named : (p : Span) → r ≡ attribute p → (c : Bool) → isName label name p ≡ c → (z : Finding) × Looks label name at (r ∷ rs) z
+      named : (p : Span) → r ≡ attribute p → (c : Bool) → hasName label name p ≡ c → (z : Finding) × Looks label name at (r ∷ rs) z
       named p e true q = (stands at, found (p, e, same-true _ _ q))
       named p e false q = on (named-not label name r p e q)
 
@@ -385,7 +326,7 @@ module _ (label name : List ℕ) where
         b .5,
       )
 
-  answers : {o : Kinds} {rs : List Row} → Closing o rs → Answers o rs
+  answers : {o : Kinds} {rs : List Row} → ClosesAll o rs → Answers o rs
   answers the-last = λ at. (absent, table-ends)
   answers {o = o} (flat {r = r} {rs = rs} h c) = flat-answers o r rs h (answers c)
   answers {o = o} (opening {k = k} {p = p} {rs = rs} c) = open-answers o k p rs (answers c)

@@ -3,11 +3,11 @@ use Prim.Native.Nat.{ℕ, _≤_, _<_}
 use mathlib.Core.Path.{_≡_, refl}
 use mathlib.Core.Bool.{Bool, true, false, cond, not, _&&_, _||_, false≢true, true≢false}
 use mathlib.Core.List.{List, [], _∷_, _++_}
-use borrow.Author.Tests.{leb-true, le-leb, lt-leb}
-use lib.Dec.{leb}
+use borrow.Author.Tests.{leb-true, le-leb, lt-leb, eqb-true, eq-eqb}
+use lib.Dec.{leb, eqb}
 use Rattle.rules.specs.Bytes.{between, All}
 use Rattle.rules.specs.Bytes as Bytes
-use Rattle.rules.specs.Values.{each}
+use Rattle.rules.specs.Values.{each, same}
 use Rattle.rules.specs.Proper.{Each, none, one}
 
 pub cond-case {ℓ} : {A : Type ℓ} (G : A → Type 0) (t : Bool) (a b : A) → (t ≡ true → G a) → (t ≡ false → G b) → G (cond t a b)
@@ -100,3 +100,14 @@ module _ {A : Type 0} {P : A → Type 0} where
 
   pub each-last : {xs : List A} {y : A} → Each P xs → P y → Each P (xs ++ (y ∷ []))
   each-last h p = each-append h (one p none)
+
+-- the test of equal bytes
+pub same-true : (s t : List ℕ) → same s t ≡ true → s ≡ t
+same-true [] [] h = refl
+same-true [] (b ∷ t) h = absurd (false≢true h)
+same-true (a ∷ s) [] h = absurd (false≢true h)
+same-true (a ∷ s) (b ∷ t) h = let e = eqb-true a b (and-left (eqb a b) (same s t) h) in let f = same-true s t (and-right (eqb a b) (same s t) h) in rw (e, f)
+
+pub true-same : (s : List ℕ) → same s s ≡ true
+true-same [] = refl
+true-same (a ∷ s) = rw (eq-eqb a a refl) (true-same s)

@@ -6,23 +6,21 @@ use lib.ListN.{length}
 use Rattle.rules.specs.Proper.{Each, none, one, Holds, Proper, Begins, Improper}
 use Rattle.rules.specs.Data.{Row}
 use Rattle.rules.specs.Table.{encode, table}
-use Rattle.rules.proofs.Tables.Values.{Valued}
-use Rattle.rules.proofs.Tables.RowMachine.{sort, Await, t-statement, t-end, Kinds, to, to-same, sort-step, RowRun, row-here, row-by, run→function}
+use Rattle.rules.proofs.Machine.Limits.{Valued}
+use Rattle.rules.proofs.Machine.Rows.{sort, Await, t-statement, t-end, Kinds, to, sort-step, RowRun, row-here, row-by}
+use Rattle.rules.proofs.Tables.RowRuns.{to-same, run→function}
 use Rattle.rules.proofs.Tables.Tests.{each-append, each-right}
-use Rattle.rules.proofs.Tables.Proper.{proper, Going, going→begins, begins→going}
-use Rattle.rules.proofs.Tables.Decode.{got, decode, decode-encode}
+use Rattle.rules.proofs.Tables.Proper.{proper, Going, run-append, going→begins, begins→going}
+use Rattle.rules.proofs.Machine.Decoding.{got, decode}
+use Rattle.rules.proofs.Tables.DecodeComplete.{decode-encode}
 use Rattle.rules.proofs.Tables.Once.{codes}
-use Rattle.rules.proofs.Tables.Decoded.{decode-sound}
+use Rattle.rules.proofs.Tables.DecodeSound.{decode-sound}
 
 after-run : {t t′ t″ : Await} {o o′ o″ : Kinds} {rs qs : List Row} → RowRun t o rs t′ o′ → RowRun t o (rs ++ qs) t″ o″ → RowRun t′ o′ qs t″ o″
 after-run row-here a = a
 after-run {t″ = t″} {o″ = o″} {qs = qs} (row-by {rs = rs} e b) (row-by e′ a) =
     let h = to-same (sym e′ ∙ e) in
     after-run b (subst₂ (λ (t : Await) (o : Kinds). RowRun t o (rs ++ qs) t″ o″) (h .0) (h .1) a)
-
-run-append : {t t′ t″ : Await} {o o′ o″ : Kinds} {rs qs : List Row} → RowRun t o rs t′ o′ → RowRun t′ o′ qs t″ o″ → RowRun t o (rs ++ qs) t″ o″
-run-append row-here b = b
-run-append (row-by e a) b = row-by e (run-append a b)
 
 one-row : {t t′ : Await} {o o′ : Kinds} {r : Row} → RowRun t o (r ∷ []) t′ o′ → sort-step t o (sort r) ≡ to t′ o′
 one-row (row-by e row-here) = e

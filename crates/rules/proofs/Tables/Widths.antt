@@ -15,7 +15,7 @@ use Rattle.rules.specs.Values.{Written, an-identifier, a-whole, a-based,
 use Rattle.rules.specs.Words.{Digits, Unsigned, Integer, signed-digits, Exponent, upper, lower, Decimal, pointed, bare, Range, from-to, in-radix, DateWord, year-doy, year-month-day, TimeWord, time, DateTime, upper-T, lower-t, Shape, identifier-word, integer-word, based-word, real-word, date-word, time-word, date-time-word, range-word, Form}
 use Rattle.rules.specs.Elements.{Spells, word, sign, one-star, two-stars, one-slash, quoted-text, quoted-symbol, Cut, none-more, next}
 use Rattle.rules.proofs.Tables.Tests.{cond-case, between-out}
-use Rattle.rules.proofs.Tables.CutValues.{When, when-within}
+use Rattle.rules.proofs.Tables.ElementLimits.{When, when-within}
 
 -- so many bytes at least spell the element: `1.`, `1:2`, `1..2`, and one byte of any other
 abbrev pub width : Elem → ℕ

@@ -1,4 +1,4 @@
--- Identifiers by one pass over the bytes, which is equal to the rules' test.
+-- The one pass over the bytes of an identifier is equal to the rules' test.
 use Prim.Native.Nat.{ℕ}
 use mathlib.Core.Bool.{Bool, true, false, not, _&&_, true≢false}
 use mathlib.Core.Path.{_≡_, refl, sym, ap, _∙_}
@@ -8,21 +8,9 @@ use lib.Dec.{eqb}
 use lib.ListN.{drop}
 use Rattle.rules.specs.Bytes.{ascii, letter, alnum, front, pair, anywhere}
 use Rattle.rules.specs.Values.{same, each}
-use Rattle.rules.specs.Words.{nameByte}
-pub use Rattle.rules.specs.Words.{isIdentifier}
+use Rattle.rules.specs.Words.{nameByte, isIdentifier}
 use Rattle.rules.proofs.Tables.Tests.{and-false}
-
--- a letter or digit; an underscore with none before it; where an underscore stands before
-abbrev pub nextMore : Bool → Bool → Bool → Bool → Bool → Bool
-nextMore true y u a b = a
-nextMore false true false a b = b
-nextMore false true true a b = false
-nextMore false false u a b = false
-
--- what may follow a letter or digit, or an underscore
-abbrev pub more : Bool → List ℕ → Bool
-more u [] = not u
-more u (b ∷ s) = nextMore (alnum b) (eqb b 95) u (more false s) (more true s)
+use Rattle.rules.proofs.Machine.Words.{nextMore, more}
 
 -- ---- the rules' test, but for the first letter
 

@@ -1,122 +1,36 @@
--- The forms of a word, as a function: one pattern for all of them, and each rule of the source against its part of it.
+-- The one pattern of a word is the forms of the rules, both ways: each rule of the source against its part of it.
 use Prim.Native.Nat.{ℕ, _≤_}
 use native.Mathlib.Omega.{arith}
-use mathlib.Core.Bool.{Bool, true, false, not, _||_, false≢true, true≢false}
-use mathlib.Core.Option.{Option, none, some}
+use mathlib.Core.Bool.{Bool, true, false, false≢true, true≢false}
+use mathlib.Core.Option.{some}
 use mathlib.Core.Path.{_≡_, refl, sym, ap, _∙_}
-use mathlib.Core.List.{List, [], _∷_, _++_, map, append-assoc, append-nil}
+use mathlib.Core.List.{List, [], _∷_, _++_, append-assoc, append-nil}
 use borrow.Author.Tests.{leb-true, ne-eqb, lt-leb, le-leb}
 use lib.Dec.{leb, eqb}
 use lib.ListN.{length}
-use Rattle.rules.specs.Bytes.{between, digit, letter, alnum, fold, front, pair, Run, All, one}
+use Rattle.rules.specs.Bytes.{between, digit, letter, alnum, front, Run, All, one}
 use Rattle.rules.specs.Bytes as Bytes
 use Rattle.rules.specs.Data.{Whole}
 use Rattle.rules.specs.Modes.{Mode}
-use Rattle.rules.specs.Values.{Date, in-year, in-month, Zone, utc, Second, Time, Written, an-identifier, a-whole, a-based, a-decimal, a-date, a-time, a-date-time, a-range, number, signed}
-use Rattle.rules.specs.Words.{Sign, unsigned, plus, minus, Digits, Unsigned, isIdentifier, Integer, signed-digits, Based, in-radix, Exponent, upper, lower, Scale, unscaled, scaled, pointed, bare, from-to, DateWord, year-doy, year-month-day, Seconds, no-second, second, decimal, ZoneMark, east, west, Zoned, local, utc-upper, utc-lower, by-hour, by-minute, TimeWord, time, upper-T, lower-t, Shape, identifier-word, integer-word, based-word, real-word, date-word, time-word, date-time-word, range-word}
+use Rattle.rules.specs.Values.{Date, in-year, in-month, Zone, Second, Time, Written, a-whole, a-based, a-decimal, a-date, a-time, a-date-time, a-range, number, signed}
+use Rattle.rules.specs.Words.{Sign, unsigned, plus, minus, Digits, Unsigned, Integer, signed-digits, Based, in-radix, Exponent, upper, lower, Scale, unscaled, scaled, pointed, bare, from-to, DateWord, year-doy, year-month-day, Seconds, no-second, second, decimal, ZoneMark, east, west, Zoned, local, utc-upper, utc-lower, by-hour, by-minute, TimeWord, time, upper-T, lower-t, Shape, identifier-word, integer-word, based-word, real-word, date-word, time-word, date-time-word, range-word}
 use Rattle.rules.proofs.Words.Runs.{both, run-all, all-run}
-use Rattle.rules.proofs.Words.Patterns.{G, stop, whole, byte, check, run, fork, Takes, t-stop, t-whole, t-byte, t-check, t-run, t-yes, t-no, matches, match-sound, match-complete, run-last}
-
--- ---- the pattern
-
-abbrev pub is : ℕ → List ℕ → Bool
-is k l = front (λ b. eqb b k) l
-
-abbrev pub isNil : List ℕ → Bool
-isNil [] = true
-isNil (b ∷ l) = false
-
-abbrev pub some-of : ℕ → Bool
-some-of n = leb 1 n
-
-abbrev pub any : ℕ → Bool
-any n = true
-
--- [sign], and whether one is written
-abbrev pub g-signs : (Bool → Bool → G) → G
-g-signs k = fork (is 45) (byte 45 (k true true)) (fork (is 43) (byte 43 (k true false)) (k false false))
-
-abbrev pub g-integer : (Whole → Written) → G
-g-integer k = g-signs (λ s neg. run digit some-of (λ ds. stop (k (signed neg (number ds)))))
-
-abbrev pub g-exponent : (Whole → Written) → G
-g-exponent k = fork (is 69) (byte 69 (g-integer k)) (byte 101 (g-integer k))
-
-abbrev pub g-scale : (Whole → Written) → G
-g-scale k = fork isNil (stop (k (signed false 0))) (g-exponent k)
-
-abbrev pub g-based : ℕ → G
-g-based r = g-signs (λ s neg. run alnum some-of (λ ds. byte 35 (stop (a-based r neg ds))))
-
-abbrev pub zone : Bool → List ℕ → ℕ → Zone
-zone w h mi = record { west = w; hours = number h; minutes = mi }
-
-abbrev pub g-offset : Bool → (Zone → Written) → G
-g-offset w k = run digit (between 1 2) (λ h. fork isNil (stop (k (zone w h 0))) (byte 58 (run digit (between 1 2) (λ mi. stop (k (zone w h (number mi)))))))
-
-abbrev pub g-zone : (Zone → Written) → G
-g-zone k =
-    fork isNil (stop (k utc)) (fork (is 90) (byte 90 (stop (k utc))) (fork (is 122) (byte 122 (stop (k utc)))
-    (fork (is 45) (byte 45 (g-offset true k)) (byte 43 (g-offset false k)))))
-
-abbrev pub sec : List ℕ → List ℕ → Second
-sec s fs = record { whole = number s; decimals = fs }
-
-abbrev pub g-seconds : (Second → G) → G
-g-seconds k =
-    fork (is 58) (byte 58 (run digit (between 1 2) (λ s. fork (is 46) (byte 46 (run digit any (λ fs. k (sec s fs)))) (k (sec s [])))))
-    (k (record { whole = 0; decimals = [] }))
-
--- after the hour and its colon
-abbrev pub g-minutes : List ℕ → (Time → Written) → G
-g-minutes h k =
-    run digit (between 1 2) (λ mi. g-seconds (λ s. g-zone (λ z. k (record { hour = number h; minute = number mi; second = s; zone = z }))))
-
-abbrev pub g-time : (Time → Written) → G
-g-time k = run digit (between 1 2) (λ h. byte 58 (g-minutes h k))
-
--- after a date: nothing, or T and a time
-abbrev pub g-dated : Date → G
-g-dated d = fork isNil (stop (a-date d)) (fork (is 84) (byte 84 (g-time (a-date-time d))) (byte 116 (g-time (a-date-time d))))
-
--- after the year and its hyphen
-abbrev pub g-days : List ℕ → G
-g-days y =
-    run digit any (λ n. fork (is 45)
-    (check (between 1 2 (length n)) (byte 45 (run digit (between 1 2) (λ d. g-dated (in-month (number y) (number n) (number d))))))
-    (check (between 1 3 (length n)) (g-dated (in-year (number y) (number n)))))
-
-abbrev pub marked : List ℕ → Bool
-marked l = is 69 l || is 101 l
-
--- after a sign or none, and digits or none
-abbrev pub g-after : Mode → Bool → Bool → List ℕ → G
-g-after m s neg ds =
-    fork isNil (check (some-of (length ds)) (stop (a-whole (signed neg (number ds)))))
-    (fork (pair 46 46) (check (m .version-1) (check (some-of (length ds)) (byte 46 (byte 46 (g-integer (a-range (signed neg (number ds))))))))
-    (fork (is 46) (byte 46 (run digit any (λ fs. check (some-of (length (ds ++ fs))) (g-scale (a-decimal neg ds fs)))))
-    (fork marked (check (some-of (length ds)) (g-exponent (a-decimal neg ds [])))
-    (check (not s)
-    (fork (is 35) (check (some-of (length ds)) (byte 35 (g-based (number ds))))
-    (fork (is 58) (check (between 1 2 (length ds)) (byte 58 (g-minutes ds a-time)))
-    (check (between 4 4 (length ds)) (byte 45 (g-days ds)))))))))
-
-abbrev pub g-word : Mode → G
-g-word m = fork (front letter) (whole isIdentifier (λ w. an-identifier (map fold w))) (g-signs (λ s neg. run digit any (g-after m s neg)))
-
-abbrev pub shape : Mode → List ℕ → Option Written
-shape m w = matches (g-word m) w
+use Rattle.rules.proofs.Machine.Patterns.{G, stop, byte, check, run, fork}
+use Rattle.rules.proofs.Words.Matching.{Takes, t-stop, t-whole, t-byte, t-check, t-run, t-yes, t-no, match-sound, match-complete, run-last}
+use Rattle.rules.proofs.Machine.Words.{next-is, some-of, zero-or-more, g-signs, g-integer, g-exponent, g-scale, g-based, zoneAt, g-offset, g-zone, sec, g-seconds, g-minutes, g-time, g-dated, g-days, g-after, g-word, shape}
+use Rattle.rules.proofs.Machine.Splits.{isNil}
 
 -- ---- bytes that differ
 
-class-not : (c : ℕ → Bool) (k : ℕ) → c k ≡ false → (b : ℕ) → c b ≡ true → eqb b k ≡ false
+-- a byte of a class is none that is not
+pub class-not : (c : ℕ → Bool) (k : ℕ) → c k ≡ false → (b : ℕ) → c b ≡ true → eqb b k ≡ false
 class-not c k z b h = ne-eqb b k (λ e. true≢false (sym h ∙ ap c e ∙ z))
 
 digit-not : (k : ℕ) → digit k ≡ false → (b : ℕ) → digit b ≡ true → eqb b k ≡ false
 digit-not k z b h = class-not digit k z b h
 
 -- the first byte behind a run of a class
-run-not : {c : ℕ → Bool} (k : ℕ) → c k ≡ false → {ds : List ℕ} → All c ds → (x : List ℕ) → is k x ≡ false → is k (ds ++ x) ≡ false
+run-not : {c : ℕ → Bool} (k : ℕ) → c k ≡ false → {ds : List ℕ} → All c ds → (x : List ℕ) → next-is k x ≡ false → next-is k (ds ++ x) ≡ false
 run-not k z Bytes.none x h = h
 run-not {c} k z (one {b} y ys) x h = class-not c k z b y
 
@@ -128,8 +42,8 @@ digit-no-letter b h =
 -- a word that begins with a digit or a period begins with no letter and no sign
 record Clear (w : List ℕ) : Type 0 where
   letter-free : front letter w ≡ false
-  minus-free : is 45 w ≡ false
-  plus-free : is 43 w ≡ false
+  minus-free : next-is 45 w ≡ false
+  plus-free : next-is 43 w ≡ false
 
 clear-digits : {ds : List ℕ} (x : List ℕ) → All digit ds → some-of (length ds) ≡ true → Clear (ds ++ x)
 clear-digits x Bytes.none h = absurd (false≢true h)
@@ -140,7 +54,7 @@ clear-pointed x Bytes.none = record { letter-free = refl; minus-free = refl; plu
 clear-pointed x (one {b} k ks) = record { letter-free = digit-no-letter b k; minus-free = digit-not 45 refl b k; plus-free = digit-not 43 refl b k }
 
 -- at the end of digits
-digits-not : (k : ℕ) → digit k ≡ false → {ds : List ℕ} → All digit ds → is k ds ≡ false
+digits-not : (k : ℕ) → digit k ≡ false → {ds : List ℕ} → All digit ds → next-is k ds ≡ false
 digits-not k z Bytes.none = refl
 digits-not k z (one {b} h hs) = digit-not k z b h
 
@@ -152,7 +66,7 @@ some-two n h = both (leb 1 n) (leb n 2) h .0
 
 -- ---- the rules, in the pattern
 
-sign-takes : (k : Bool → Bool → G) {s w : List ℕ} {neg : Bool} {v : Written} → Sign s neg → is 45 w ≡ false → is 43 w ≡ false →
+sign-takes : (k : Bool → Bool → G) {s w : List ℕ} {neg : Bool} {v : Written} → Sign s neg → next-is 45 w ≡ false → next-is 43 w ≡ false →
     ((b : Bool) → Takes (k b neg) w v) → Takes (g-signs k) (s ++ w) v
 sign-takes k unsigned a b t = t-no a (t-no b (t false))
 sign-takes k plus a b t = t-no refl (t-yes refl (t-byte (t true)))
@@ -174,12 +88,12 @@ scale-takes k unscaled = t-yes refl t-stop
 scale-takes k (scaled (upper i)) = t-no refl (exponent-takes k (upper i))
 scale-takes k (scaled (lower i)) = t-no refl (exponent-takes k (lower i))
 
-scale-point : {w : List ℕ} {z : Whole} → Scale w z → is 46 w ≡ false
+scale-point : {w : List ℕ} {z : Whole} → Scale w z → next-is 46 w ≡ false
 scale-point unscaled = refl
 scale-point (scaled (upper i)) = refl
 scale-point (scaled (lower i)) = refl
 
-scale-front : {w : List ℕ} {z : Whole} → Scale w z → front digit w ≡ false
+pub scale-front : {w : List ℕ} {z : Whole} → Scale w z → front digit w ≡ false
 scale-front unscaled = refl
 scale-front (scaled x) = exponent-front x
 
@@ -196,8 +110,8 @@ zone-takes k (by-minute west h mi) =
 
 record Quiet (w : List ℕ) : Type 0 where
   no-digit : front digit w ≡ false
-  no-colon : is 58 w ≡ false
-  no-period : is 46 w ≡ false
+  no-colon : next-is 58 w ≡ false
+  no-period : next-is 46 w ≡ false
 
 zone-quiet : {w : List ℕ} {z : Zone} → Zoned w z → Quiet w
 zone-quiet local = record { no-digit = refl; no-colon = refl; no-period = refl }
@@ -245,7 +159,7 @@ dated-front date-alone = refl
 dated-front (date-upper t) = refl
 dated-front (date-lower t) = refl
 
-dated-hyphen : {d : Date} {w : List ℕ} {v : Written} → Dated d w v → is 45 w ≡ false
+dated-hyphen : {d : Date} {w : List ℕ} {v : Written} → Dated d w v → next-is 45 w ≡ false
 dated-hyphen date-alone = refl
 dated-hyphen (date-upper t) = refl
 dated-hyphen (date-lower t) = refl
@@ -339,7 +253,7 @@ taken-scale k (t-yes h t-stop) = via unscaled
 taken-scale k (t-no h x) = via-scaled (taken-exponent k x)
 
 after-hour : (k : Zone → Written) {b : ℕ} {w : Bool} {h r : List ℕ} {v : Written} → ZoneMark b w → Digits 1 2 h →
-    Takes (fork isNil (stop (k (zone w h 0))) (byte 58 (run digit (between 1 2) (λ mi. stop (k (zone w h (number mi))))))) r v → Via Zoned k (b ∷ (h ++ r)) v
+    Takes (fork isNil (stop (k (zoneAt w h 0))) (byte 58 (run digit (between 1 2) (λ mi. stop (k (zoneAt w h (number mi))))))) r v → Via Zoned k (b ∷ (h ++ r)) v
 after-hour k mk d (t-yes i t-stop) = rw append-nil (via (by-hour mk d))
 after-hour k mk d (t-no i (t-byte (t-run u o x))) = let e = stopped x in rw (e .0, e .1, append-nil) (via (by-minute mk d (record { all = run-all u; count = o })))
 
@@ -354,7 +268,7 @@ taken-zone k (t-no a (t-no b (t-no c (t-yes h (t-byte x))))) = taken-offset k we
 taken-zone k (t-no a (t-no b (t-no c (t-no h (t-byte x))))) = taken-offset k east x
 
 after-second : (k : Second → G) {s r : List ℕ} {v : Written} → Digits 1 2 s →
-    Takes (fork (is 46) (byte 46 (run digit any (λ fs. k (sec s fs)))) (k (sec s []))) r v → Then Seconds k (58 ∷ (s ++ r)) v
+    Takes (fork (next-is 46) (byte 46 (run digit zero-or-more (λ fs. k (sec s fs)))) (k (sec s []))) r v → Then Seconds k (58 ∷ (s ++ r)) v
 after-second k {s} {v = v} d (t-yes i (t-byte (t-run {a = fs} {r = u} f o x))) =
     let y : Then Seconds k ((58 ∷ (s ++ 46 ∷ fs)) ++ u) v = then (decimal d (run-all f)) x in
     simp append-assoc at y
@@ -420,7 +334,7 @@ module _ (m : Mode) where
   dated-shape d (date-lower t) = date-time-word (lower-t d t)
 
   after-month : {y mo r : List ℕ} {v : Written} → Digits 4 4 y → All digit mo →
-      Takes (fork (is 45)
+      Takes (fork (next-is 45)
       (check (between 1 2 (length mo)) (byte 45 (run digit (between 1 2) (λ d. g-dated (in-month (number y) (number mo) (number d))))))
       (check (between 1 3 (length mo)) (g-dated (in-year (number y) (number mo))))) r v → Shape m (y ++ 45 ∷ (mo ++ r)) v
   after-month a b (t-yes h (t-check i (t-byte (t-run u j x)))) =
@@ -450,8 +364,8 @@ module _ (m : Mode) where
 
   -- no sign before a based integer, a date or a time
   taken-unsigned : {ds x : List ℕ} {v : Written} → All digit ds →
-      Takes (fork (is 35) (check (some-of (length ds)) (byte 35 (g-based (number ds))))
-      (fork (is 58) (check (between 1 2 (length ds)) (byte 58 (g-minutes ds a-time)))
+      Takes (fork (next-is 35) (check (some-of (length ds)) (byte 35 (g-based (number ds))))
+      (fork (next-is 58) (check (between 1 2 (length ds)) (byte 58 (g-minutes ds a-time)))
       (check (between 4 4 (length ds)) (byte 45 (g-days ds))))) x v → Shape m (ds ++ x) v
   taken-unsigned a (t-yes h (t-check c (t-byte x))) = based-word (taken-based (record { all = a; some = c }) x)
   taken-unsigned a (t-no h (t-yes i (t-check c (t-byte x)))) = via-time (taken-minutes a-time (record { all = a; count = c }) x)

@@ -4,7 +4,7 @@ use native.Mathlib.Omega.{arith}
 use native.Mathlib.Nat.{pow-zero, pow-succ', mul-assoc, mul-one, add-zero}
 use mathlib.Core.Bool.{Bool, true, false, cond, _&&_, true≢false}
 use mathlib.Core.Logic.{_⊎_, inl, inr, _↔_}
-use mathlib.Core.Option.{Option, none, some}
+use mathlib.Core.Option.{none, some}
 use mathlib.Core.Path.{_≡_, refl, sym, ap, subst, _∙_}
 use mathlib.Core.List.{List, [], _∷_}
 use borrow.Author.Tests.{eqb-true, eqb-false, leb-true, leb-false, le-leb, lt-leb}
@@ -14,10 +14,11 @@ use Rattle.rules.specs.Bytes.{digit, All, one}
 use Rattle.rules.specs.Bytes as Bytes
 use Rattle.rules.specs.Values.{onto, each, significant, monthLength, Day, nthDay, in-year, dayOf}
 use Rattle.rules.proofs.Words.Runs.{both}
+use Rattle.rules.proofs.Options.{none-some, some-same}
 
 -- ---- digits without the zeros that end them
 
-abbrev nought : ℕ → Bool
+abbrev pub nought : ℕ → Bool
 nought b = eqb b 48
 
 abbrev dropped : List ℕ → ℕ
@@ -40,7 +41,8 @@ significant-worth n (d ∷ ds) = go (significant-worth (n * 10 + (d - 48)) ds) (
     go ih true h = onto-zeros n (d ∷ ds) h ∙ ap (λ (k : ℕ). n * 10 ^ k) (omega arith)
     go ih false h = ih ∙ ap (λ (k : ℕ). onto (n * 10 + (d - 48)) (significant ds) * 10 ^ k) (omega arith)
 
-all-zeros : (ds : List ℕ) → significant ds ≡ [] → each nought ds ≡ true
+-- where nothing is left, all were zeros
+pub all-zeros : (ds : List ℕ) → significant ds ≡ [] → each nought ds ≡ true
 all-zeros [] e = refl
 all-zeros (d ∷ ds) e = go (each nought (d ∷ ds)) refl e
   where
@@ -96,12 +98,6 @@ pub record IsDay (y : ℕ) (x : Day) : Type 0 where
   pub first-day : 1 ≤ x .day
   pub last-day : x .day ≤ monthLength y (x .month)
 
-some-is : {x x′ : Day} → _≡_ {A = Option Day} (some x) (some x′) → x ≡ x′
-some-is e = cc
-
-none-some : {x : Day} → _≡_ {A = Option Day} none (some x) → ⊥
-none-some {x} e = let z : _≡_ {A = ℕ} 0 1 = cc in omega arith
-
 record Within (y m k n : ℕ) (x : Day) : Type 0 where
   year : x .year ≡ y
   from-month : m ≤ x .month
@@ -119,7 +115,7 @@ nth-sound y m (suc k) n x h e = go (nth-sound y (suc m) k (n - monthLength y m) 
         Within y m (suc k) n x
     go ih true b e =
         let l = leb-true n (monthLength y m) b in
-        subst (Within y m (suc k) n) (some-is e) (record { year = refl; from-month = omega arith; to-month = omega arith; first-day = h; last-day = l; count = refl })
+        subst (Within y m (suc k) n) (some-same e) (record { year = refl; from-month = omega arith; to-month = omega arith; first-day = h; last-day = l; count = refl })
     go ih false b e =
         let l = leb-false n (monthLength y m) b in
         let w = ih (omega arith) e in

@@ -7,8 +7,9 @@ use Rattle.rules.specs.Written.{Prior, prior, after}
 use Rattle.rules.specs.Data.{Span, Opens, RowOf, Row, attribute, pointer, opened, closed, an-integer, a-real, a-moment, a-text, a-symbol, a-unit, sequence, sequence-end, set, set-end, last}
 use Rattle.rules.specs.Meaning.{Sense, sense, meaning}
 use Rattle.rules.proofs.Written.Pieces.{piecesOf}
-use Rattle.rules.proofs.Tables.RowMachine.{Await, Kinds, RowRun, row-run, run→function, function→run, run-aside}
-use Rattle.rules.proofs.Tables.Values.{Valued}
+use Rattle.rules.proofs.Machine.Rows.{Await, Kinds, RowRun, row-run}
+use Rattle.rules.proofs.Tables.RowRuns.{run→function, function→run, run-aside}
+use Rattle.rules.proofs.Machine.Limits.{Valued}
 use Rattle.rules.proofs.Written.Place.{skip, spanIn, spanned, laid}
 
 pub aside-sense : (given : List ℕ) (r : Row) → aside (sense given r) ≡ aside r

@@ -15,16 +15,18 @@ use Rattle.rules.specs.Written.{isName, unpadded, digits, wide, indent, 
 use Rattle.rules.specs.Writing.{Writes, stored}
 use Rattle.rules.specs.Asked.{says, Texted, Viewed, Sought}
 use Rattle.rules.specs.Examples.{Call, reads, writes, takes-text, looks-up, views, relabels, calls, CallHolds, CallsHold}
-use Rattle.rules.proofs.Grammar.Machine.{name-discrete}
-use Rattle.rules.proofs.Reading.Reader.{Return, reader, reads-sound, answer, answered}
+use Rattle.rules.proofs.Machine.Statements.{name-discrete}
+use Rattle.rules.proofs.Machine.Returns.{Return, returns}
+use Rattle.rules.proofs.Machine.Labels.{reader, answer}
+use Rattle.rules.proofs.Reading.Reader.{reads-sound, answered}
 use Rattle.rules.proofs.Tables.Numbers.{valueOnto}
-use Rattle.rules.proofs.Tables.Decode.{field, decode}
-use Rattle.rules.proofs.Tables.Contents.{isText, isSymbol}
-use Rattle.rules.proofs.Tables.Judge.{judgeTable}
+use Rattle.rules.proofs.Machine.Decoding.{field, decode}
+use Rattle.rules.proofs.Machine.Checks.{isText, isSymbol}
+use Rattle.rules.proofs.Machine.Verdicts.{judgeTable}
 use Rattle.rules.proofs.Tables.OwnTable.{read-ruled}
-use Rattle.rules.proofs.Tables.Seeking.{fromOf, seeks}
-use Rattle.rules.proofs.Tables.Asked.{outcome, textedOf, soughtOf, viewedOf, texted-there, viewed-there, sought-there}
-use Rattle.rules.proofs.Tables.Asked as Asked
+use Rattle.rules.proofs.Machine.Lookup.{fromOf, seeks}
+use Rattle.rules.proofs.Machine.Queries.{textedOf, soughtOf, viewedOf}
+use Rattle.rules.proofs.Tables.Asked.{texted-there, viewed-there, sought-there}
 use Rattle.rules.proofs.Written.Outcome.{writtenOf, writes-there}
 
 -- a reading accepts, and the written label of its rows is these bytes
@@ -38,9 +40,9 @@ record Rewritten (label after : List ℕ) : Type 0 where
 
 -- the functions give the results
 abbrev Computed : Call → Type 0
-Computed (reads label room s after) = answer base label room ≡ (s, after)
-Computed (writes label lent room s after) = writtenOf label lent room ≡ (s, after)
-Computed (takes-text label lent row room s after) = textedOf label lent row room ≡ outcome s after
+Computed (reads label room s after) = answer base label room ≡ returns s after
+Computed (writes label lent room s after) = writtenOf label lent room ≡ returns s after
+Computed (takes-text label lent row room s after) = textedOf label lent row room ≡ returns s after
 Computed (looks-up label lent name row s) = soughtOf label lent name row ≡ s
 Computed (views label lent row p) = viewedOf label lent row ≡ p
 Computed (relabels label after) = Rewritten label after
@@ -55,9 +57,9 @@ rewrites : (label after : List ℕ) (rows : List Row) → canonical (meaning lab
 rewrites label after rows e h k v room f = rw (sym e) (stored h v (rw e k) (rw e f))
 
 holds : (x : Call) → Computed x → CallHolds x
-holds (reads label room s after) e = subst (λ (o : Return). Answered base label room (o .0) (o .1)) e (answered base label room)
-holds (writes label lent room s after) e = subst (λ (o : Return). Writes label lent room (o .0) (o .1)) e (writes-there label lent room)
-holds (takes-text label lent row room s after) e = subst (λ (o : Asked.Outcome). Texted label lent row room (o .said) (o .room)) e (texted-there label lent row room)
+holds (reads label room s after) e = subst (λ (o : Return). Answered base label room (o .said) (o .room)) e (answered base label room)
+holds (writes label lent room s after) e = subst (λ (o : Return). Writes label lent room (o .said) (o .room)) e (writes-there label lent room)
+holds (takes-text label lent row room s after) e = subst (λ (o : Return). Texted label lent row room (o .said) (o .room)) e (texted-there label lent row room)
 holds (looks-up label lent name row s) e = subst (Sought label lent name row) e (sought-there label lent row name)
 holds (views label lent row p) e = subst (Viewed label lent row) e (viewed-there label lent row)
 holds (relabels label after) e =

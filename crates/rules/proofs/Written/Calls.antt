@@ -9,11 +9,12 @@ use Rattle.rules.specs.Data.{Row}
 use Rattle.rules.specs.Table.{table}
 use Rattle.rules.specs.Reading.{longest, accepted, Reads, Said, Answered}
 use Rattle.rules.specs.Reading as Reading
-use Rattle.rules.specs.Proper.{theRules, Proper, proper-rows, Ruled, is-proper}
+use Rattle.rules.specs.Proper.{theRules, proper-rows, Ruled}
 use Rattle.rules.specs.Meaning.{meaning}
 use Rattle.rules.specs.Written.{canonical}
 use Rattle.rules.specs.Writing.{Writes, long-label, no-table, long-written, short-room, stored}
 use Rattle.rules.proofs.Tables.Bound.{enough-room}
+use Rattle.rules.proofs.Tables.Asked.{is-rows}
 use Rattle.rules.proofs.Tables.Judge.{same-rows, not-both, verdict-once}
 use Rattle.rules.proofs.Written.RoundTrip.{reads-back}
 use Rattle.rules.proofs.Written.Outcome.{writes-once}
@@ -30,9 +31,6 @@ pub record LeftInRoom (label lent after : List ℕ) (n : ℕ) : Type 0 where
   pub past : ℕ
   pub reads : Reads theRules (take n after) (accepted rows-back past)
   pub means : meaning (take n after) rows-back ≡ meaning label rows
-
-is-rows : {given lent : List ℕ} {rows : List Row} → Ruled given lent (proper-rows rows) → Proper given rows
-is-rows (is-proper e p) = p
 
 -- a writing with code 0 left such bytes
 pub left-in-room : {label lent room after : List ℕ} {said : Said} → Writes label lent room said after → said .code ≡ 0 → LeftInRoom label lent after (said .size)

@@ -7,7 +7,8 @@ use Rattle.rules.specs.Proper.{NameWord, Each, none, one, stretch, Held,
 use Rattle.rules.specs.Written.{isName, after}
 use Rattle.rules.specs.Data.{Span, Opens, outside, inside, Row, attribute, pointer, opened, closed, an-integer, a-real, a-moment, a-text, a-symbol, a-unit, sequence, sequence-end, set, set-end, last}
 use Rattle.rules.specs.Meaning.{Sense, foldAll, reassemble, sense, meaning}
-use Rattle.rules.proofs.Tables.Contents.{name-test, text-body, symbol-body, isText, isSymbol}
+use Rattle.rules.proofs.Tables.Contents.{name-test, text-body, symbol-body}
+use Rattle.rules.proofs.Machine.Checks.{isText, isSymbol}
 use Rattle.rules.proofs.Written.Texts.{reassemble-idempotent, reassemble-text}
 use Rattle.rules.proofs.Written.Folds.{fold-all-again, name-fold, is-symbol-fold}
 

@@ -1,18 +1,20 @@
 -- Upper case: twice is once, and it changes no test that names and symbols are judged by.
 use Prim.Native.Nat.{ℕ, _-_, _≤_}
 use mathlib.Core.Path.{_≡_, refl, sym, ap₂, _∙_}
-use mathlib.Core.Bool.{Bool, true, false, cond, not, _&&_}
+use mathlib.Core.Bool.{Bool, true, false, cond, _&&_}
 use mathlib.Core.List.{List, [], _∷_}
 use native.Mathlib.Omega.{arith}
 use borrow.Author.Tests.{ne-eqb}
 use lib.Dec.{eqb}
 use lib.ListN.{drop, length-map}
-use Rattle.rules.specs.Bytes.{between, lower, letter, alnum, fold, front}
+use Rattle.rules.specs.Bytes.{lower, letter, alnum, fold, front}
 use Rattle.rules.specs.Values.{each}
 use Rattle.rules.specs.Written.{isName}
 use Rattle.rules.specs.Meaning.{foldAll}
-use Rattle.rules.proofs.Words.Identifiers.{more, isIdentifier, identifier-pass}
-use Rattle.rules.proofs.Tables.Contents.{isSymbol}
+use Rattle.rules.proofs.Machine.Words.{more}
+use Rattle.rules.specs.Words.{isIdentifier}
+use Rattle.rules.proofs.Words.Identifiers.{identifier-pass}
+use Rattle.rules.proofs.Machine.Checks.{symbolByte, isSymbol}
 use Rattle.rules.proofs.Tables.Tests.{and-true, not-as, between-in, between-out, between-below, between-above}
 
 -- what a lower case byte and its upper case are
@@ -59,9 +61,6 @@ alnum-fold b = unseen alnum (λ b l. rw (letter-up b l, letter-low b l)) b
 
 under-fold : (b : ℕ) → eqb (fold b) 95 ≡ eqb b 95
 under-fold b = unseen (λ b. eqb b 95) (λ b l. ne-eqb (b - 32) 95 (λ e. omega (arith, l .least, l .most)) ∙ sym (ne-eqb b 95 (λ e. omega (arith, l .least, l .most)))) b
-
-abbrev symbolByte : ℕ → Bool
-symbolByte b = between 32 126 b && not (eqb b 39)
 
 symbol-fold : (b : ℕ) → symbolByte (fold b) ≡ symbolByte b
 symbol-fold b =

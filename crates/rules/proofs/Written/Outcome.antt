@@ -3,46 +3,43 @@ use Prim.Native.Nat.{ℕ, _≤_, _<_}
 use native.Mathlib.Omega.{arith}
 use mathlib.Core.Bool.{cond}
 use mathlib.Core.Path.{_≡_, refl, sym, ap, subst, _∙_}
-use mathlib.Core.List.{List, _++_}
+use mathlib.Core.List.{List}
 use borrow.Author.Tests.{leb-true, leb-false}
 use lib.Dec.{leb}
-use lib.ListN.{length, drop}
+use lib.ListN.{length}
 use Rattle.rules.specs.Data.{Row}
-use Rattle.rules.specs.Reading.{longest, Said}
+use Rattle.rules.specs.Reading.{longest, Said, says, filled}
 use Rattle.rules.specs.Proper.{Verdict, proper-rows, improper-at, Ruled}
 use Rattle.rules.specs.Meaning.{meaning}
 use Rattle.rules.specs.Written.{canonical}
 use Rattle.rules.specs.Writing.{Writes, long-label, no-table, long-written, short-room, stored}
-use Rattle.rules.specs.Asked.{says}
+use Rattle.rules.proofs.Machine.Returns.{Return, returns}
 use Rattle.rules.proofs.Tables.Tests.{cond-case}
-use Rattle.rules.proofs.Tables.Asked.{onVerdict}
-use Rattle.rules.proofs.Tables.Judge.{same-rows, not-both, judgeTable, verdict-sound, verdict-once}
-
--- an outcome: what is said, and the room after
-abbrev pub Return : Type 0
-Return = Said × List ℕ
+use Rattle.rules.proofs.Machine.Verdicts.{onVerdict, judgeTable}
+use Rattle.rules.proofs.Tables.Judge.{same-rows, not-both, verdict-sound, verdict-once}
 
 -- of a canonical label, by its length and the room's
 abbrev pub writtenInto : List ℕ → List ℕ → Return
 writtenInto room c =
-    cond (leb (length c) longest) (cond (leb (length c) (length room)) (says 0 (length c) (length c), c ++ drop (length c) room) (says 11 (length c) (length c), room)) (says 13 longest 0, room)
+    cond (leb (length c) longest) (cond (leb (length c) (length room)) (returns (says 0 (length c) (length c)) (filled c room)) (returns (says 11 (length c) (length c)) room)) (returns (says 13 longest 0) room)
 
 -- the outcome, as a function
 unfoldable pub writtenOf : List ℕ → List ℕ → List ℕ → Return
 writtenOf label lent room =
     cond (leb (length label) longest)
-    (onVerdict (judgeTable label lent) (λ at. (says 12 at 0, room)) (λ rows. writtenInto room (canonical (meaning label rows))))
-    (says 1 longest 0, room)
+    (onVerdict (judgeTable label lent) (λ at. returns (says 12 at 0) room) (λ rows. writtenInto room (canonical (meaning label rows))))
+    (returns (says 1 longest 0) room)
 
-same-place : {i j : ℕ} → improper-at i ≡ improper-at j → i ≡ j
+-- one place of code 12
+pub same-place : {i j : ℕ} → improper-at i ≡ improper-at j → i ≡ j
 same-place e = cc
 
 module _ (label lent room : List ℕ) where
   -- where the table is proper, its canonical label decides
   data Decided (c : List ℕ) : Said → List ℕ → Type 0 where
-    too-long : longest < length c → Decided c (record { code = 13; place = longest; size = 0 }) room
-    no-room : length c ≤ longest → length room < length c → Decided c (record { code = 11; place = length c; size = length c }) room
-    written : length c ≤ longest → length c ≤ length room → Decided c (record { code = 0; place = length c; size = length c }) (c ++ drop (length c) room)
+    too-long : longest < length c → Decided c (says 13 longest 0) room
+    no-room : length c ≤ longest → length room < length c → Decided c (says 11 (length c) (length c)) room
+    written : length c ≤ longest → length c ≤ length room → Decided c (says 0 (length c) (length c)) (filled c room)
 
   decided-once : {c : List ℕ} {s s′ : Said} {r r′ : List ℕ} → Decided c s r → Decided c s′ r′ → (s ≡ s′) × (r ≡ r′)
   decided-once (too-long a) (too-long b) = (refl, refl)
@@ -57,8 +54,8 @@ module _ (label lent room : List ℕ) where
 
   -- an outcome by the three questions: the label's length, the verdict on the table, the canonical label
   data Asked (s : Said) (r : List ℕ) : Type 0 where
-    label-long : longest < length label → s ≡ record { code = 1; place = longest; size = 0 } → r ≡ room → Asked s r
-    table-bad : (at : ℕ) → length label ≤ longest → Ruled label lent (improper-at at) → s ≡ record { code = 12; place = at; size = 0 } → r ≡ room → Asked s r
+    label-long : longest < length label → s ≡ says 1 longest 0 → r ≡ room → Asked s r
+    table-bad : (at : ℕ) → length label ≤ longest → Ruled label lent (improper-at at) → s ≡ says 12 at 0 → r ≡ room → Asked s r
     table-good : (rows : List Row) → length label ≤ longest → Ruled label lent (proper-rows rows) → Decided (canonical (meaning label rows)) s r → Asked s r
 
   asked : {s : Said} {r : List ℕ} → Writes label lent room s r → Asked s r
@@ -75,7 +72,7 @@ module _ (label lent room : List ℕ) where
   both (table-bad at h v e f) (label-long k g i) = absurd (omega arith)
   both (table-bad at h v e f) (table-bad at′ k u g i) =
       let p : at ≡ at′ = same-place (verdict-once label h lent v u) in
-      (e ∙ ap (λ (n : ℕ). record { code = 12; place = n; size = 0 }) p ∙ sym g, f ∙ sym i)
+      (e ∙ ap (λ (n : ℕ). says 12 n 0) p ∙ sym g, f ∙ sym i)
   both (table-bad at h v e f) (table-good rows k u d) = absurd (not-both (verdict-once label h lent u v))
   both (table-good rows h v d) (label-long k g i) = absurd (omega arith)
   both (table-good rows h v d) (table-bad at k u g i) = absurd (not-both (verdict-once label h lent v u))
@@ -87,7 +84,7 @@ module _ (label lent room : List ℕ) where
   writes-once w w′ = both (asked w) (asked w′)
 
   abbrev Gives : Return → Type 0
-  Gives o = Writes label lent room (o .0) (o .1)
+  Gives o = Writes label lent room (o .said) (o .room)
 
   -- what the function gives is one
   pub writes-there : Gives (writtenOf label lent room)
@@ -97,7 +94,7 @@ module _ (label lent room : List ℕ) where
       (λ h. let short = leb-true (length label) longest h in by-verdict short (judgeTable label lent) (verdict-sound label short lent))
       (λ h. long-label (leb-false (length label) longest h))
     where
-      by-verdict : length label ≤ longest → (v : Verdict) → Ruled label lent v → Gives (onVerdict v (λ at. (says 12 at 0, room)) (λ rows. writtenInto room (canonical (meaning label rows))))
+      by-verdict : length label ≤ longest → (v : Verdict) → Ruled label lent v → Gives (onVerdict v (λ at. returns (says 12 at 0) room) (λ rows. writtenInto room (canonical (meaning label rows))))
       by-verdict h (improper-at at) v = no-table h v
       by-verdict h (proper-rows rows) v =
           let c : List ℕ = canonical (meaning label rows) in

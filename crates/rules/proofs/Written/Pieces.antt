@@ -9,41 +9,41 @@ use Rattle.rules.specs.Data.{Whole, Name, Fixed, equals, comma, star, sl
 use Rattle.rules.specs.Meaning.{Sense}
 use Rattle.rules.specs.Written.{decimal, realBytes, momentBytes, isName, symbolBytes, opSign, isOne, openWord, closeWord, Prior, start, heading, member, factor, bracket, prior, unitsEnd, lead, newLine, around, after, repeats, writes, writesAll, canonical}
 
-pub record Piece : Type 0 where
+pub record WrittenPiece : Type 0 where
   pub gap : List ℕ
   -- what stands before and after the span: quotes, or nothing
   pub mark : List ℕ
   pub word : List ℕ
   pub elem : Elem
 
-abbrev pub sign : List ℕ → List ℕ → Fixed → Piece
+abbrev pub sign : List ℕ → List ℕ → Fixed → WrittenPiece
 sign g w k = record { gap = g; mark = []; word = w; elem = the k }
 
-abbrev pub plain : List ℕ → List ℕ → Elem → Piece
+abbrev pub plain : List ℕ → List ℕ → Elem → WrittenPiece
 plain g w e = record { gap = g; mark = []; word = w; elem = e }
 
 -- `NAME`
-abbrev pub called : List ℕ → Name → Piece
+abbrev pub called : List ℕ → Name → WrittenPiece
 called g n = record { gap = g; mark = []; word = n; elem = name n }
 
 abbrev pub space : List ℕ
 space = 32 ∷ []
 
 -- ` =`
-abbrev pub is : Piece
+abbrev pub is : WrittenPiece
 is = sign space (byte "=" ∷ []) equals
 
 -- a symbol stands bare if it is an unreserved identifier of at most 60 bytes, else in apostrophes
-abbrev pub symbolPiece : List ℕ → List ℕ → Bool → Piece
+abbrev pub symbolPiece : List ℕ → List ℕ → Bool → WrittenPiece
 symbolPiece g w true = called g w
 symbolPiece g w false = record { gap = g; mark = byte "'" ∷ []; word = w; elem = symbol }
 
 -- `**-2`, exponent 1 unwritten
-abbrev pub exponentPieces : Whole → Bool → List Piece
+abbrev pub exponentPieces : Whole → Bool → List WrittenPiece
 exponentPieces w true = []
 exponentPieces w false = sign [] (byte "*" ∷ byte "*" ∷ []) power ∷ plain [] (decimal w) (integer w) ∷ []
 
-abbrev pub opPiece : Op → Piece
+abbrev pub opPiece : Op → WrittenPiece
 opPiece first = sign space (byte "<" ∷ []) less
 opPiece times = sign [] (byte "*" ∷ []) star
 opPiece divided = sign [] (byte "/" ∷ []) slash
@@ -51,7 +51,7 @@ opPiece divided = sign [] (byte "/" ∷ []) slash
 -- ---- between one row and the next
 
 -- after units, `>`
-abbrev pub closing : Prior → List Piece
+abbrev pub closing : Prior → List WrittenPiece
 closing start = []
 closing heading = []
 closing member = []
@@ -59,11 +59,11 @@ closing factor = sign [] (byte ">" ∷ []) greater ∷ []
 closing bracket = []
 
 -- between two rows
-abbrev pub rowPieces : List Piece
+abbrev pub rowPieces : List WrittenPiece
 rowPieces = []
 
 -- between members, a comma
-abbrev pub apart : Prior → List Piece
+abbrev pub apart : Prior → List WrittenPiece
 apart start = []
 apart heading = []
 apart member = sign [] (byte "," ∷ []) comma ∷ []
@@ -81,12 +81,12 @@ before bracket = []
 -- ---- rows
 
 -- a closing line repeatPieces the name of the innermost block
-abbrev pub repeatPieces : Opens → List Piece
+abbrev pub repeatPieces : Opens → List WrittenPiece
 repeatPieces outside = []
 repeatPieces (inside k n o) = is ∷ called space n ∷ []
 
 -- what a row writes, after `q`, within the blocks `o`
-abbrev pub piecesOf : Prior → Opens → Sense → List Piece
+abbrev pub piecesOf : Prior → Opens → Sense → List WrittenPiece
 piecesOf q o (attribute n) = closing q ++ (called (newLine q (depth o)) n ∷ is ∷ [])
 piecesOf q o (pointer n) = closing q ++ (sign (newLine q (depth o)) (byte "^" ∷ []) caret ∷ called [] n ∷ is ∷ [])
 piecesOf q o (opened k n) = closing q ++ (sign (newLine q (depth o)) (openWord k) (opener k) ∷ is ∷ called space n ∷ [])
@@ -103,21 +103,21 @@ piecesOf q o set = apart q ++ (sign (before q) (byte "{" ∷ []) lbrace ∷ [])
 piecesOf q o set-end = closing q ++ (sign [] (byte "}" ∷ []) rbrace ∷ [])
 piecesOf q o (last n) = closing q ++ (plain (newLine q (depth o)) (ascii "END") (end true) ∷ [])
 
-abbrev pub pieces : Prior → Opens → List Sense → List Piece
+abbrev pub pieces : Prior → Opens → List Sense → List WrittenPiece
 pieces q o [] = []
 pieces q o (r ∷ rs) = piecesOf q o r ++ pieces (prior r) (after o r) rs
 
 -- the bytes of pieces
-abbrev pub bytesOf : List Piece → List ℕ
+abbrev pub bytesOf : List WrittenPiece → List ℕ
 bytesOf [] = []
 bytesOf (p ∷ ps) = p .gap ++ (p .mark ++ (p .word ++ (p .mark ++ bytesOf ps)))
 
-abbrev pub writtenPieces : List Sense → List Piece
+abbrev pub writtenPieces : List Sense → List WrittenPiece
 writtenPieces m = pieces start outside m
 
 -- ---- their bytes
 
-pub bytes-append : (ps qs : List Piece) → bytesOf (ps ++ qs) ≡ bytesOf ps ++ bytesOf qs
+pub bytes-append : (ps qs : List WrittenPiece) → bytesOf (ps ++ qs) ≡ bytesOf ps ++ bytesOf qs
 bytes-append [] qs = refl
 bytes-append (p ∷ ps) qs = simp (append-assoc, bytes-append ps qs)
 
@@ -136,11 +136,11 @@ apart-bytes factor s = refl
 apart-bytes bracket s = refl
 
 -- behind what closes the row before
-after-closing : (q : Prior) (ps : List Piece) (s : List ℕ) → bytesOf ps ≡ s → bytesOf (closing q ++ ps) ≡ unitsEnd q ++ s
+after-closing : (q : Prior) (ps : List WrittenPiece) (s : List ℕ) → bytesOf ps ≡ s → bytesOf (closing q ++ ps) ≡ unitsEnd q ++ s
 after-closing q ps s e = bytes-append (closing q) ps ∙ ap (λ (l : List ℕ). l ++ bytesOf ps) (closing-bytes q) ∙ ap (λ (l : List ℕ). unitsEnd q ++ l) e
 
 -- behind what stands before a value
-after-apart : (q : Prior) (p : Piece) (s : List ℕ) → bytesOf (p ∷ []) ≡ before q ++ s → bytesOf (apart q ++ (p ∷ [])) ≡ unitsEnd q ++ (lead q ++ s)
+after-apart : (q : Prior) (p : WrittenPiece) (s : List ℕ) → bytesOf (p ∷ []) ≡ before q ++ s → bytesOf (apart q ++ (p ∷ [])) ≡ unitsEnd q ++ (lead q ++ s)
 after-apart q p s e = bytes-append (apart q) (p ∷ []) ∙ ap (λ (l : List ℕ). bytesOf (apart q) ++ l) e ∙ apart-bytes q s
 
 plain-bytes : (g w : List ℕ) (e : Elem) → bytesOf (plain g w e ∷ []) ≡ g ++ w
@@ -158,7 +158,7 @@ exponent-bytes : (w : Whole) (b : Bool) → bytesOf (exponentPieces w b) ≡ con
 exponent-bytes w true = refl
 exponent-bytes w false = ap (λ (l : List ℕ). 42 ∷ 42 ∷ l) (append-nil (decimal w))
 
-op-bytes : (op : Op) (s : List ℕ) (ps : List Piece) → bytesOf ps ≡ s → bytesOf (opPiece op ∷ ps) ≡ opSign op ++ s
+op-bytes : (op : Op) (s : List ℕ) (ps : List WrittenPiece) → bytesOf ps ≡ s → bytesOf (opPiece op ∷ ps) ≡ opSign op ++ s
 op-bytes first s ps e = ap (λ (l : List ℕ). 32 ∷ 60 ∷ l) e
 op-bytes times s ps e = ap (λ (l : List ℕ). 42 ∷ l) e
 op-bytes divided s ps e = ap (λ (l : List ℕ). 47 ∷ l) e

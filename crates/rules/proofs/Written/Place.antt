@@ -7,24 +7,24 @@ use lib.ListN.{length}
 use Rattle.rules.specs.Data.{Span, Elem, name, the, end, integer, based, real, moment, range, text, symbol, Placed, _on_, Opens, Row, attribute, pointer, opened, closed, an-integer, a-real, a-moment, a-text, a-symbol, a-unit, sequence, sequence-end, set, set-end, last}
 use Rattle.rules.specs.Meaning.{Sense}
 use Rattle.rules.specs.Written.{Prior, prior, after}
-use Rattle.rules.proofs.Written.Pieces.{Piece, piecesOf}
+use Rattle.rules.proofs.Written.Pieces.{WrittenPiece, piecesOf}
 
 -- the span of a piece that begins at `n`, and where the next piece begins
-abbrev pub spanAt : ℕ → Piece → Span
+abbrev pub spanAt : ℕ → WrittenPiece → Span
 spanAt n p = record { from = n + length (p .gap) + length (p .mark); upto = n + length (p .gap) + length (p .mark) + length (p .word) }
 
-abbrev pub next : ℕ → Piece → ℕ
+abbrev pub next : ℕ → WrittenPiece → ℕ
 next n p = n + length (p .gap) + length (p .mark) + length (p .word) + length (p .mark)
 
-abbrev pub place : ℕ → List Piece → List Placed
+abbrev pub place : ℕ → List WrittenPiece → List Placed
 place n [] = []
 place n (p ∷ ps) = p .elem on spanAt n p ∷ place (next n p) ps
 
-abbrev pub skip : ℕ → List Piece → ℕ
+abbrev pub skip : ℕ → List WrittenPiece → ℕ
 skip n [] = n
 skip n (p ∷ ps) = skip (next n p) ps
 
-pub place-append : (n : ℕ) (ps qs : List Piece) → place n (ps ++ qs) ≡ place n ps ++ place (skip n ps) qs
+pub place-append : (n : ℕ) (ps qs : List WrittenPiece) → place n (ps ++ qs) ≡ place n ps ++ place (skip n ps) qs
 place-append n [] qs = refl
 place-append n (p ∷ ps) qs = ap (λ (l : List Placed). p .elem on spanAt n p ∷ l) (place-append (next n p) ps qs)
 
@@ -42,7 +42,7 @@ hasSpan text = true
 hasSpan symbol = true
 
 -- the first such span
-abbrev pub spanIn : ℕ → List Piece → Span
+abbrev pub spanIn : ℕ → List WrittenPiece → Span
 spanIn n [] = record { from = 0; upto = 0 }
 spanIn n (p ∷ ps) = cond (hasSpan (p .elem)) (spanAt n p) (spanIn (next n p) ps)
 

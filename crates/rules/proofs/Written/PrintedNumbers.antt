@@ -17,8 +17,9 @@ use Rattle.rules.specs.Words.{unsigned, minus, Unsigned, Integer, signed
 use Rattle.rules.specs.Values.{a-whole, a-decimal, onto, number, signed, within, each, significant, moved, held, realKept, then}
 use Rattle.rules.specs.Written.{unpadded, digits, wide, decimal, realBytes}
 use Rattle.rules.proofs.Tables.Numbers.{wide-places, places, valueOnto, places-back}
-use Rattle.rules.proofs.Tables.Values.{Within, RealHeld}
+use Rattle.rules.proofs.Machine.Limits.{Within, RealHeld}
 use Rattle.rules.proofs.Tables.Tests.{cond-case, and-left, and-false, between-in}
+use Rattle.rules.proofs.Words.Worth.{nought}
 
 -- ---- digits
 
@@ -112,13 +113,14 @@ integer-form off w h =
 -- ---- reals
 
 abbrev pub noughts : List ℕ → Bool
-noughts s = each (λ b. eqb b 48) s
+noughts s = each nought s
 
 not-noughts : (a : List ℕ) (c : ℕ) → eqb c 48 ≡ false → noughts (a ++ (c ∷ [])) ≡ false
 not-noughts [] c h = rw h
 not-noughts (d ∷ a) c h = rw (not-noughts a c h) (and-false (eqb d 48))
 
-significant-whole : (a : List ℕ) (c : ℕ) → eqb c 48 ≡ false → significant (a ++ (c ∷ [])) ≡ a ++ (c ∷ [])
+-- digits that end in no zero are all significant
+pub significant-whole : (a : List ℕ) (c : ℕ) → eqb c 48 ≡ false → significant (a ++ (c ∷ [])) ≡ a ++ (c ∷ [])
 significant-whole [] c h = rw h
 significant-whole (d ∷ a) c h = rw (not-noughts a c h, and-false, significant-whole a c h)
 

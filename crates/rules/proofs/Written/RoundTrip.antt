@@ -10,8 +10,8 @@ use Rattle.rules.specs.Modes.{Mode}
 use Rattle.rules.specs.Meaning.{Sense, meaning}
 use Rattle.rules.specs.Written.{start, canonical}
 use Rattle.rules.proofs.Written.Pieces.{writtenPieces}
-use Rattle.rules.proofs.Tables.RowMachine.{t-statement, RowAccepts}
-use Rattle.rules.proofs.Tables.Values.{Valued}
+use Rattle.rules.proofs.Machine.Rows.{t-statement, RowAccepts}
+use Rattle.rules.proofs.Machine.Limits.{Valued}
 use Rattle.rules.proofs.Tables.Proper.{proper}
 use Rattle.rules.proofs.Written.Place.{skip, laid}
 use Rattle.rules.proofs.Written.Clean.{Clean, clean-meaning}

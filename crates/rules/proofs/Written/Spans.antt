@@ -10,7 +10,7 @@ use Rattle.rules.specs.Proper.{Each, none, one, stretch}
 use Rattle.rules.specs.Written.{isName, isOne, Prior, start, heading, member, factor, bracket, prior, after, canonical}
 use Rattle.rules.specs.Data.{Op, first, times, divided, Opens, outside, attribute, pointer, opened, closed, an-integer, a-real, a-moment, a-text, a-symbol, a-unit, sequence, sequence-end, set, set-end, last}
 use Rattle.rules.specs.Meaning.{Sense, foldAll, reassemble, sense, meaning}
-use Rattle.rules.proofs.Written.Pieces.{bytes-append, written-bytes, Piece, called, symbolPiece, exponentPieces, opPiece, closing, apart, before, piecesOf, pieces, bytesOf}
+use Rattle.rules.proofs.Written.Pieces.{bytes-append, written-bytes, WrittenPiece, called, symbolPiece, exponentPieces, opPiece, closing, apart, before, piecesOf, pieces, bytesOf}
 use Rattle.rules.proofs.Written.Place.{spanAt, next, skip, hasSpan, spanIn, spanned, laid}
 use Rattle.rules.proofs.Written.Clean.{Clean}
 
@@ -39,33 +39,33 @@ at-word whole n w rest a =
     rw (a .split, drop-at (a .front) (w ++ rest) n (a .size), e) (take-at w rest (length w) refl)
 
 module _ (whole : List ℕ) (post : List ℕ) where
-  abbrev pub Here : ℕ → List Piece → Type 0
+  abbrev pub Here : ℕ → List WrittenPiece → Type 0
   Here n ps = At whole n (bytesOf ps ++ post)
 
-  piece-open : (n : ℕ) (p : Piece) (ps : List Piece) → Here n (p ∷ ps) → At whole n (p .gap ++ (p .mark ++ (p .word ++ (p .mark ++ (bytesOf ps ++ post)))))
+  piece-open : (n : ℕ) (p : WrittenPiece) (ps : List WrittenPiece) → Here n (p ∷ ps) → At whole n (p .gap ++ (p .mark ++ (p .word ++ (p .mark ++ (bytesOf ps ++ post)))))
   piece-open n p ps h = simp append-assoc at h
 
-  pub here-next : (n : ℕ) (p : Piece) (ps : List Piece) → Here n (p ∷ ps) → Here (next n p) ps
+  pub here-next : (n : ℕ) (p : WrittenPiece) (ps : List WrittenPiece) → Here n (p ∷ ps) → Here (next n p) ps
   here-next n p ps h =
       at-past whole _ (p .mark) _ (at-past whole _ (p .word) _ (at-past whole _ (p .mark) _ (at-past whole n (p .gap) _ (piece-open n p ps h))))
 
-  pub here-word : (n : ℕ) (p : Piece) (ps : List Piece) → Here n (p ∷ ps) → stretch whole (spanAt n p) ≡ p .word
+  pub here-word : (n : ℕ) (p : WrittenPiece) (ps : List WrittenPiece) → Here n (p ∷ ps) → stretch whole (spanAt n p) ≡ p .word
   here-word n p ps h = at-word whole _ (p .word) _ (at-past whole _ (p .mark) _ (at-past whole n (p .gap) _ (piece-open n p ps h)))
 
-  pub here-skip : (n : ℕ) (ps qs : List Piece) → Here n (ps ++ qs) → Here (skip n ps) qs
+  pub here-skip : (n : ℕ) (ps qs : List WrittenPiece) → Here n (ps ++ qs) → Here (skip n ps) qs
   here-skip n [] qs h = h
   here-skip n (p ∷ ps) qs h = here-skip (next n p) ps qs (here-next n p (ps ++ qs) h)
 
 -- ---- the first span, past what closes the row before
 
-span-closing : (n : ℕ) (q : Prior) (ps : List Piece) → spanIn n (closing q ++ ps) ≡ spanIn (skip n (closing q)) ps
+span-closing : (n : ℕ) (q : Prior) (ps : List WrittenPiece) → spanIn n (closing q ++ ps) ≡ spanIn (skip n (closing q)) ps
 span-closing n start ps = refl
 span-closing n heading ps = refl
 span-closing n member ps = refl
 span-closing n factor ps = refl
 span-closing n bracket ps = refl
 
-span-apart : (n : ℕ) (q : Prior) (ps : List Piece) → spanIn n (apart q ++ ps) ≡ spanIn (skip n (apart q)) ps
+span-apart : (n : ℕ) (q : Prior) (ps : List WrittenPiece) → spanIn n (apart q ++ ps) ≡ spanIn (skip n (apart q)) ps
 span-apart n start ps = refl
 span-apart n heading ps = refl
 span-apart n member ps = refl
@@ -74,28 +74,28 @@ span-apart n bracket ps = refl
 
 module _ (whole : List ℕ) (post : List ℕ) where
   -- a name, first or after other elements
-  closed-word : (n : ℕ) (q : Prior) (p : Piece) (ps : List Piece) → hasSpan (p .elem) ≡ true → Here whole post n (closing q ++ (p ∷ ps)) → stretch whole (spanIn n (closing q ++ (p ∷ ps))) ≡ p .word
+  closed-word : (n : ℕ) (q : Prior) (p : WrittenPiece) (ps : List WrittenPiece) → hasSpan (p .elem) ≡ true → Here whole post n (closing q ++ (p ∷ ps)) → stretch whole (spanIn n (closing q ++ (p ∷ ps))) ≡ p .word
   closed-word n q p ps e h = rw (span-closing n q (p ∷ ps), e) (here-word whole post _ p ps (here-skip whole post n (closing q) (p ∷ ps) h))
 
-  closed-second : (n : ℕ) (q : Prior) (p p′ : Piece) (ps : List Piece) → hasSpan (p .elem) ≡ false → hasSpan (p′ .elem) ≡ true → Here whole post n (closing q ++ (p ∷ p′ ∷ ps)) →
+  closed-second : (n : ℕ) (q : Prior) (p p′ : WrittenPiece) (ps : List WrittenPiece) → hasSpan (p .elem) ≡ false → hasSpan (p′ .elem) ≡ true → Here whole post n (closing q ++ (p ∷ p′ ∷ ps)) →
       stretch whole (spanIn n (closing q ++ (p ∷ p′ ∷ ps))) ≡ p′ .word
   closed-second n q p p′ ps e e′ h =
       rw (span-closing n q (p ∷ p′ ∷ ps), e, e′) (here-word whole post _ p′ ps (here-next whole post _ p (p′ ∷ ps) (here-skip whole post n (closing q) (p ∷ p′ ∷ ps) h)))
 
-  closed-third : (n : ℕ) (q : Prior) (p p′ p″ : Piece) (ps : List Piece) → hasSpan (p .elem) ≡ false → hasSpan (p′ .elem) ≡ false → hasSpan (p″ .elem) ≡ true → Here whole post n (closing q ++ (p ∷ p′ ∷ p″ ∷ ps)) →
+  closed-third : (n : ℕ) (q : Prior) (p p′ p″ : WrittenPiece) (ps : List WrittenPiece) → hasSpan (p .elem) ≡ false → hasSpan (p′ .elem) ≡ false → hasSpan (p″ .elem) ≡ true → Here whole post n (closing q ++ (p ∷ p′ ∷ p″ ∷ ps)) →
       stretch whole (spanIn n (closing q ++ (p ∷ p′ ∷ p″ ∷ ps))) ≡ p″ .word
   closed-third n q p p′ p″ ps e e′ e″ h =
       rw (span-closing n q (p ∷ p′ ∷ p″ ∷ ps), e, e′, e″)
       (here-word whole post _ p″ ps (here-next whole post _ p′ (p″ ∷ ps) (here-next whole post _ p (p′ ∷ p″ ∷ ps) (here-skip whole post n (closing q) (p ∷ p′ ∷ p″ ∷ ps) h))))
 
-  apart-word : (n : ℕ) (q : Prior) (p : Piece) → hasSpan (p .elem) ≡ true → Here whole post n (apart q ++ (p ∷ [])) → stretch whole (spanIn n (apart q ++ (p ∷ []))) ≡ p .word
+  apart-word : (n : ℕ) (q : Prior) (p : WrittenPiece) → hasSpan (p .elem) ≡ true → Here whole post n (apart q ++ (p ∷ [])) → stretch whole (spanIn n (apart q ++ (p ∷ []))) ≡ p .word
   apart-word n q p e h = rw (span-apart n q (p ∷ []), e) (here-word whole post _ p [] (here-skip whole post n (apart q) (p ∷ []) h))
 
   symbol-word : (n : ℕ) (q : Prior) (g w : List ℕ) (b : Bool) → Here whole post n (apart q ++ (symbolPiece g w b ∷ [])) → stretch whole (spanIn n (apart q ++ (symbolPiece g w b ∷ []))) ≡ w
   symbol-word n q g w true h = apart-word n q (symbolPiece g w true) refl h
   symbol-word n q g w false h = apart-word n q (symbolPiece g w false) refl h
 
-  unit-word : (n : ℕ) (op : Op) (w : List ℕ) (ps : List Piece) → Here whole post n (opPiece op ∷ called [] w ∷ ps) → stretch whole (spanIn n (opPiece op ∷ called [] w ∷ ps)) ≡ w
+  unit-word : (n : ℕ) (op : Op) (w : List ℕ) (ps : List WrittenPiece) → Here whole post n (opPiece op ∷ called [] w ∷ ps) → stretch whole (spanIn n (opPiece op ∷ called [] w ∷ ps)) ≡ w
   unit-word n first w ps h = here-word whole post _ (called [] w) ps (here-next whole post n (opPiece first) (called [] w ∷ ps) h)
   unit-word n times w ps h = here-word whole post _ (called [] w) ps (here-next whole post n (opPiece times) (called [] w ∷ ps) h)
   unit-word n divided w ps h = here-word whole post _ (called [] w) ps (here-next whole post n (opPiece divided) (called [] w ∷ ps) h)

@@ -17,16 +17,18 @@ use Rattle.rules.specs.Data.{Whole, Fixed, equals, comma, caret, less, g
 use Rattle.rules.specs.Words.{Form}
 use Rattle.rules.specs.Elements.{signOf, Gap, no-gap, blank, inWord, setsOff, Spells, word, sign as sign-spelled, one-star, two-stars, one-slash, quoted-text, quoted-symbol, Cut, none-more, next as cut-next}
 use Rattle.rules.specs.Meaning.{Sense}
-use Rattle.rules.proofs.Written.Pieces.{bytes-append, written-bytes, Piece, sign, plain, called, space, is, symbolPiece, exponentPieces, opPiece, closing, apart, before, repeatPieces, piecesOf, pieces, bytesOf, writtenPieces}
+use Rattle.rules.proofs.Written.Pieces.{bytes-append, written-bytes, WrittenPiece, sign, plain, called, space, is, symbolPiece, exponentPieces, opPiece, closing, apart, before, repeatPieces, piecesOf, pieces, bytesOf, writtenPieces}
 use Rattle.rules.proofs.Tables.Tests.{and-left, and-right}
 use Rattle.rules.proofs.Written.Place.{spanAt, next, place, skip}
-use Rattle.rules.proofs.Grammar.Machine.{in-sequence, in-row, in-set, alone, within}
-use Rattle.rules.proofs.Tables.RowMachine.{sort, s-last, Await, t-statement, t-value, t-first, t-set-first, t-in-row, t-row, t-end, t-number, t-units, t-member, Kinds, to, to-none, none-to, to-same, sort-step, RowRun, row-here, row-by}
-use Rattle.rules.proofs.Tables.Values.{Within, Valued}
+use Rattle.rules.proofs.Machine.Statements.{in-sequence, in-row, in-set, alone, within}
+use Rattle.rules.proofs.Machine.Rows.{sort, s-last, Await, t-statement, t-value, t-first, t-set-first, t-in-row, t-row, t-end, t-number, t-units, t-member, Kinds, to, to-none, sort-step, RowRun, row-here, row-by}
+use Rattle.rules.proofs.Tables.RowRuns.{none-to, to-same}
+use Rattle.rules.proofs.Machine.Limits.{Within, Valued}
 use Rattle.rules.proofs.Written.Clean.{Upper, Clean, Uppers, uppers-after}
 use Rattle.rules.proofs.Written.Names.{name-form, open-form, close-form, end-form}
 use Rattle.rules.proofs.Words.Runs.{all-run}
-use Rattle.rules.proofs.Tables.Contents.{textByte, symbolByte, isText, isSymbol, passes-all, name-bytes, Begun, begun, name-begun}
+use Rattle.rules.proofs.Machine.Checks.{textByte, symbolByte, isText, isSymbol}
+use Rattle.rules.proofs.Tables.Contents.{passes-all, name-bytes, Begun, begun, name-begun}
 use Rattle.rules.proofs.Written.PrintedNumbers.{integer-form, real-form}
 use Rattle.rules.proofs.Written.PrintedMoments.{moment-form}
 use Rattle.rules.proofs.Written.WordBytes.{decimal-wordy, real-wordy, moment-wordy}
@@ -34,20 +36,20 @@ use Rattle.rules.proofs.Written.WordBytes.{decimal-wordy, real-wordy, m
 -- ---- one piece
 
 -- with `r` behind it, a piece is cut off as its element
-pub record Spelled (p : Piece) (r : List ℕ) : Type 0 where
+pub record Spelled (p : WrittenPiece) (r : List ℕ) : Type 0 where
   pub blanks : (l : List ℕ) → Gap theRules (p .gap) l
   pub spelled : Spells theRules (p .mark ++ (p .word ++ p .mark)) (p .elem) (length (p .mark)) r
 
-abbrev pub AllSpelled : List Piece → List ℕ → Type 0
+abbrev pub AllSpelled : List WrittenPiece → List ℕ → Type 0
 AllSpelled [] r = Unit {0}
 AllSpelled (p ∷ ps) r = Spelled p (bytesOf ps ++ r) × AllSpelled ps r
 
-spelled-append : (ps qs : List Piece) (r : List ℕ) → AllSpelled ps (bytesOf qs ++ r) → AllSpelled qs r → AllSpelled (ps ++ qs) r
+spelled-append : (ps qs : List WrittenPiece) (r : List ℕ) → AllSpelled ps (bytesOf qs ++ r) → AllSpelled qs r → AllSpelled (ps ++ qs) r
 spelled-append [] qs r h k = k
 spelled-append (p ∷ ps) qs r h k =
     (subst (Spelled p) (sym (ap (λ (l : List ℕ). l ++ r) (bytes-append ps qs) ∙ append-assoc (bytesOf ps) (bytesOf qs) r)) (h .0), spelled-append ps qs r (h .1) k)
 
-pub cut-pieces : (n : ℕ) (ps : List Piece) (r : List ℕ) → AllSpelled ps r → Cut theRules n (bytesOf ps ++ r) (place n ps) (skip n ps) r
+pub cut-pieces : (n : ℕ) (ps : List WrittenPiece) (r : List ℕ) → AllSpelled ps r → Cut theRules n (bytesOf ps ++ r) (place n ps) (skip n ps) r
 cut-pieces n [] r h = none-more
 cut-pieces n (p ∷ ps) r h =
     let w : List ℕ = p .mark ++ (p .word ++ p .mark) in
@@ -128,7 +130,7 @@ Ends member = Unit {0}
 Ends factor = Unit {0}
 Ends bracket = ⊥
 
-line-first : (q : Prior) → Ends q → (d : ℕ) (m w : List ℕ) (e : Elem) (ps : List Piece) (r : List ℕ) →
+line-first : (q : Prior) → Ends q → (d : ℕ) (m w : List ℕ) (e : Elem) (ps : List WrittenPiece) (r : List ℕ) →
     inWord (bytesOf (closing q ++ (record { gap = newLine q d; mark = m; word = w; elem = e } ∷ ps)) ++ r) ≡ false
 line-first start h d m w e ps r = absurd h
 line-first heading h d m w e ps r = refl
@@ -136,7 +138,7 @@ line-first member h d m w e ps r = refl
 line-first factor h d m w e ps r = refl
 line-first bracket h d m w e ps r = absurd h
 
-apart-first : (q : Prior) → Ends q → (m w : List ℕ) (e : Elem) (ps : List Piece) (r : List ℕ) →
+apart-first : (q : Prior) → Ends q → (m w : List ℕ) (e : Elem) (ps : List WrittenPiece) (r : List ℕ) →
     inWord (bytesOf (apart q ++ (record { gap = before q; mark = m; word = w; elem = e } ∷ ps)) ++ r) ≡ false
 apart-first start h m w e ps r = absurd h
 apart-first heading h m w e ps r = refl
@@ -155,7 +157,7 @@ end-first member h b f r k = k
 end-first factor h b f r k = refl
 end-first bracket h b f r k = absurd h
 
-op-first : (op : Op) (ps : List Piece) (r : List ℕ) → inWord (bytesOf (opPiece op ∷ ps) ++ r) ≡ false
+op-first : (op : Op) (ps : List WrittenPiece) (r : List ℕ) → inWord (bytesOf (opPiece op ∷ ps) ++ r) ≡ false
 op-first first ps r = refl
 op-first times ps r = refl
 op-first divided ps r = refl
@@ -180,7 +182,7 @@ row-first q h o (last n) r = line-first q h _ _ _ _ _ r
 abbrev tailBytes : List ℕ
 tailBytes = 13 ∷ 10 ∷ []
 
-split-bytes : (ps qs : List Piece) (r : List ℕ) → bytesOf (ps ++ qs) ++ r ≡ bytesOf ps ++ (bytesOf qs ++ r)
+split-bytes : (ps qs : List WrittenPiece) (r : List ℕ) → bytesOf (ps ++ qs) ++ r ≡ bytesOf ps ++ (bytesOf qs ++ r)
 split-bytes ps qs r = ap (λ (l : List ℕ). l ++ r) (bytes-append ps qs) ∙ append-assoc (bytesOf ps) (bytesOf qs) r
 
 rows-first : (q : Prior) → Ends q → (o : Opens) (rs : List Sense) → inWord (bytesOf (pieces q o rs) ++ tailBytes) ≡ false
@@ -189,14 +191,14 @@ rows-first q h o (r ∷ rs) = ap inWord (split-bytes (piecesOf q o r) (pieces (p
 
 -- ---- each row's pieces are spelled
 
-closing-spelled : (q : Prior) (ps : List Piece) (r : List ℕ) → AllSpelled ps r → AllSpelled (closing q ++ ps) r
+closing-spelled : (q : Prior) (ps : List WrittenPiece) (r : List ℕ) → AllSpelled ps r → AllSpelled (closing q ++ ps) r
 closing-spelled start ps r h = h
 closing-spelled heading ps r h = h
 closing-spelled member ps r h = h
 closing-spelled factor ps r h = (a-sign-spelled [] (λ l. no-gap) 62 greater _ refl, h)
 closing-spelled bracket ps r h = h
 
-apart-spelled : (q : Prior) (ps : List Piece) (r : List ℕ) → AllSpelled ps r → AllSpelled (apart q ++ ps) r
+apart-spelled : (q : Prior) (ps : List WrittenPiece) (r : List ℕ) → AllSpelled ps r → AllSpelled (apart q ++ ps) r
 apart-spelled start ps r h = h
 apart-spelled heading ps r h = h
 apart-spelled member ps r h = (a-sign-spelled [] (λ l. no-gap) 44 comma _ refl, h)
@@ -229,7 +231,7 @@ open-some group = (refl, refl)
 star-first : (w x l : List ℕ) → Begun w → front (λ b. eqb b 42) ((w ++ x) ++ l) ≡ false
 star-first w x l (begun {b} h) = ne-eqb b 42 (λ e. omega arith)
 
-op-spelled : (op : Op) (w : List ℕ) (ps : List Piece) (r : List ℕ) → Begun w → Spelled (opPiece op) (bytesOf (called [] w ∷ ps) ++ r)
+op-spelled : (op : Op) (w : List ℕ) (ps : List WrittenPiece) (r : List ℕ) → Begun w → Spelled (opPiece op) (bytesOf (called [] w ∷ ps) ++ r)
 op-spelled first w ps r h = a-sign-spelled space gap-space 60 less _ refl
 op-spelled times w ps r h = record { blanks = λ l. no-gap; spelled = one-star (star-first w (bytesOf ps) r h) }
 op-spelled divided w ps r h = record { blanks = λ l. no-gap; spelled = one-slash (star-first w (bytesOf ps) r h) }

@@ -9,7 +9,7 @@ use Rattle.rules.specs.Elements.{isBlank}
 use Rattle.rules.specs.Values.{each}
 use Rattle.rules.specs.Proper.{Each, none, one}
 use Rattle.rules.specs.Meaning.{kept, keep, breaks, join, reassemble}
-use Rattle.rules.proofs.Tables.Contents.{isText}
+use Rattle.rules.proofs.Machine.Checks.{isText}
 use Rattle.rules.proofs.Tables.Tests.{cond-case, cond-same, and-true, and-left, and-right, and-false, or-left, or-right, not-as, as-not, passes-each, each-map}
 
 -- what holds of every byte that is no line end, and of a space, holds of what is joined

@@ -12,7 +12,7 @@ use Rattle.rules.specs.Written.{digits, wide, decimal, realBytes, dateBy
 use Rattle.rules.specs.Bytes.{digit, letter, wordByte, All, none, one}
 use Rattle.rules.specs.Data.{Whole, Real, Moment}
 use Rattle.rules.proofs.Tables.Tests.{all-append, or-second, cond-case}
-use Rattle.rules.proofs.Tables.Values.{RealHeld}
+use Rattle.rules.proofs.Machine.Limits.{RealHeld}
 use Rattle.rules.proofs.Tables.Contents.{alnum-word}
 use Rattle.rules.proofs.Written.PrintedNumbers.{printed, some-digits, wide-all, wide-length}
 use Rattle.rules.proofs.Written.PrintedMoments.{significant-all}

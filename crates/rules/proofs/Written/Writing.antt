@@ -14,13 +14,14 @@ use Rattle.rules.specs.Data.{Span, Whole, one, Real, Moment, Name, Fixed
 use Rattle.rules.specs.Grammar.{strict, unwritten, Label}
 use Rattle.rules.specs.Meaning.{Sense}
 use Rattle.rules.specs.Bytes.{ascii}
-use Rattle.rules.proofs.Written.Pieces.{Piece, sign, plain, called, space, is, symbolPiece, exponentPieces, closing, apart, piecesOf, pieces, writtenPieces}
-use Rattle.rules.proofs.Grammar.Machine.{Group, in-sequence, in-row, in-set, Place, alone, within, Else, no-else, any-value, a-row, a-set-end, State, at-statement, at-semicolon, at-equals, at-pointer, at-opener, at-opened, at-closer, at-closed, at-scalar, at-number, at-member, at-row, at-unit, at-power, at-exponent, at-factor, at-end, goes, judge, step, after, name-discrete}
+use Rattle.rules.proofs.Written.Pieces.{WrittenPiece, sign, plain, called, space, is, symbolPiece, exponentPieces, closing, apart, piecesOf, pieces, writtenPieces}
+use Rattle.rules.proofs.Machine.Statements.{Group, in-sequence, in-row, in-set, Place, alone, within, Else, no-else, any-value, a-row, a-set-end, State, at-statement, at-semicolon, at-equals, at-pointer, at-opener, at-opened, at-closer, at-closed, at-scalar, at-number, at-member, at-row, at-unit, at-power, at-exponent, at-factor, at-end, goes, judge, step, after, name-discrete, chosen}
 use Rattle.rules.proofs.Grammar.Rest.{Rest, r-factor, r-power, r-end}
 use Rattle.rules.proofs.Grammar.Sound.{sound-step, semicolon-missing, number-units}
 use Rattle.rules.proofs.Grammar.Complete.{limit-kept, name-found, caret-found, open-found}
-use Rattle.rules.proofs.Tables.RowMachine.{Sort, s-attribute, s-pointer, s-number, s-other, s-unit-first, s-unit-more, s-sequence, s-sequence-end, s-set, s-set-end, s-last, s-opened, s-closed, Sort-discrete, unit-sort, sort, Await, t-statement, t-value, t-first, t-set-first, t-in-row, t-row, t-end, t-number, t-units, t-member, Kinds, To, to-none, to, Line, _↝_, chosen, look, t-after, statement-lines, end-lines, after-lines, lines, sort-step, RowRun, row-here, row-by, RowAccepts}
-use Rattle.rules.proofs.Tables.Values.{Valued}
+use Rattle.rules.proofs.Machine.Rows.{Sort, s-attribute, s-pointer, s-number, s-other, s-unit-first, s-unit-more, s-sequence, s-sequence-end, s-set, s-set-end, s-last, s-opened, s-closed, Sort-discrete, unit-sort, sort, Await, t-statement, t-value, t-first, t-set-first, t-in-row, t-row, t-end, t-number, t-units, t-member, Kinds, To, to-none, to, RowLine, _↝_, look, t-after, statement-lines, end-lines, after-lines, lines, sort-step, RowRun, row-here, row-by, RowAccepts}
+use Rattle.rules.proofs.Grammar.Each.{chosen-case}
+use Rattle.rules.proofs.Machine.Limits.{Valued}
 use Rattle.rules.proofs.Written.Place.{spanAt, place, skip, place-append, spanIn, spanned, laid}
 use Rattle.rules.proofs.Grammar.Theorems.{whole}
 
@@ -65,7 +66,7 @@ agrees-after (within g) = g-member
 
 -- ---- one row: if the rest may follow after it, then the row's pieces and the rest may follow before it
 
-abbrev Core : State → Opens → List Piece → Sense → Await → Type 0
+abbrev Core : State → Opens → List WrittenPiece → Sense → Await → Type 0
 Core st o X r t =
     (n : ℕ) (ys : List Placed) (qs : List Row) → Rest theRules strict (state t) (opens-after o r) ys qs →
     Rest theRules strict st o (place n X ++ ys) (spanned (spanIn n X) r ∷ qs)
@@ -129,73 +130,69 @@ core-unit st c op o k g u w v e h n ys qs s =
 
 -- ---- rows of a sort
 
-pub data Shape : Sort → Sense → Type 0 where
-  is-attribute : {p : List ℕ} → Shape s-attribute (attribute p)
-  is-pointer : {p : List ℕ} → Shape s-pointer (pointer p)
-  is-opened : {k : Kind} {p : List ℕ} → Shape (s-opened k) (opened k p)
-  is-closed : {k : Kind} → Shape (s-closed k) (closed k)
-  is-integer : {w : Whole} → Shape s-number (an-integer w)
-  is-real : {x : Real} → Shape s-number (a-real x)
-  is-moment : {t : Moment} → Shape s-other (a-moment t)
-  is-text : {p : List ℕ} → Shape s-other (a-text p)
-  is-symbol : {p : List ℕ} → Shape s-other (a-symbol p)
-  is-first : {p : List ℕ} {w : Whole} → Shape s-unit-first (a-unit first p w)
-  is-times : {p : List ℕ} {w : Whole} → Shape s-unit-more (a-unit times p w)
-  is-divided : {p : List ℕ} {w : Whole} → Shape s-unit-more (a-unit divided p w)
-  is-sequence : Shape s-sequence sequence
-  is-sequence-end : Shape s-sequence-end sequence-end
-  is-set : Shape s-set set
-  is-set-end : Shape s-set-end set-end
-  is-last : {n : Unit {0}} → Shape s-last (last n)
+pub data OfSort : Sort → Sense → Type 0 where
+  is-attribute : {p : List ℕ} → OfSort s-attribute (attribute p)
+  is-pointer : {p : List ℕ} → OfSort s-pointer (pointer p)
+  is-opened : {k : Kind} {p : List ℕ} → OfSort (s-opened k) (opened k p)
+  is-closed : {k : Kind} → OfSort (s-closed k) (closed k)
+  is-integer : {w : Whole} → OfSort s-number (an-integer w)
+  is-real : {x : Real} → OfSort s-number (a-real x)
+  is-moment : {t : Moment} → OfSort s-other (a-moment t)
+  is-text : {p : List ℕ} → OfSort s-other (a-text p)
+  is-symbol : {p : List ℕ} → OfSort s-other (a-symbol p)
+  is-first : {p : List ℕ} {w : Whole} → OfSort s-unit-first (a-unit first p w)
+  is-times : {p : List ℕ} {w : Whole} → OfSort s-unit-more (a-unit times p w)
+  is-divided : {p : List ℕ} {w : Whole} → OfSort s-unit-more (a-unit divided p w)
+  is-sequence : OfSort s-sequence sequence
+  is-sequence-end : OfSort s-sequence-end sequence-end
+  is-set : OfSort s-set set
+  is-set-end : OfSort s-set-end set-end
+  is-last : {n : Unit {0}} → OfSort s-last (last n)
 
-unit-shape : (op : Op) (p : List ℕ) (w : Whole) → Shape (unit-sort op) (a-unit op p w)
+unit-shape : (op : Op) (p : List ℕ) (w : Whole) → OfSort (unit-sort op) (a-unit op p w)
 unit-shape first p w = is-first
 unit-shape times p w = is-times
 unit-shape divided p w = is-divided
 
-pub shape : (r : Sense) → Shape (sort r) r
-shape (attribute p) = is-attribute
-shape (pointer p) = is-pointer
-shape (opened k p) = is-opened
-shape (closed k) = is-closed
-shape (an-integer w) = is-integer
-shape (a-real x) = is-real
-shape (a-moment t) = is-moment
-shape (a-text p) = is-text
-shape (a-symbol p) = is-symbol
-shape (a-unit op p w) = unit-shape op p w
-shape sequence = is-sequence
-shape sequence-end = is-sequence-end
-shape set = is-set
-shape set-end = is-set-end
-shape (last n) = is-last
+pub of-sort : (r : Sense) → OfSort (sort r) r
+of-sort (attribute p) = is-attribute
+of-sort (pointer p) = is-pointer
+of-sort (opened k p) = is-opened
+of-sort (closed k) = is-closed
+of-sort (an-integer w) = is-integer
+of-sort (a-real x) = is-real
+of-sort (a-moment t) = is-moment
+of-sort (a-text p) = is-text
+of-sort (a-symbol p) = is-symbol
+of-sort (a-unit op p w) = unit-shape op p w
+of-sort sequence = is-sequence
+of-sort sequence-end = is-sequence-end
+of-sort set = is-set
+of-sort set-end = is-set-end
+of-sort (last n) = is-last
 
 abbrev FitTo : State → Prior → Opens → Sense → To → Type 0
 FitTo st q o r to-none = Unit {0}
 FitTo st q o r (to t ks) = (kinds (opens-after o r) ≡ ks) × Agrees t (prior r) × Core st o (piecesOf q o r) r t
 
 abbrev Fit : State → Prior → Opens → Sort → To → Type 0
-Fit st q o k n = (r : Sense) → Shape k r → Valued r → FitTo st q o r n
+Fit st q o k n = (r : Sense) → OfSort k r → Valued r → FitTo st q o r n
 
-abbrev AllFit : State → Prior → Opens → List Line → Type 0
+abbrev AllFit : State → Prior → Opens → List RowLine → Type 0
 AllFit st q o [] = Unit {0}
 AllFit st q o (k ↝ n ∷ l) = Fit st q o k n × AllFit st q o l
 
-chosen-case : {P : Type 0} (d : Dec P) (a b : To) (G : To → Type 0) → (P → G a) → G b → G (chosen d a b)
-chosen-case (yes h) a b G f g = f h
-chosen-case (no h) a b G f g = g
-
-look-fit : (st : State) (q : Prior) (o : Opens) (r : Sense) → Valued r → (l : List Line) → AllFit st q o l → FitTo st q o r (look l (sort r))
+look-fit : (st : State) (q : Prior) (o : Opens) (r : Sense) → Valued r → (l : List RowLine) → AllFit st q o l → FitTo st q o r (look l (sort r))
 look-fit st q o r v [] h = tt
 look-fit st q o r v (k ↝ n ∷ l) h =
     chosen-case (Sort-discrete Kind-discrete k (sort r)) n (look l (sort r)) (FitTo st q o r)
-    (λ e. h .0 r (subst (λ (j : Sort). Shape j r) (sym e) (shape r)) v) (look-fit st q o r v l (h .1))
+    (λ e. h .0 r (subst (λ (j : Sort). OfSort j r) (sym e) (of-sort r)) v) (look-fit st q o r v l (h .1))
 
 -- ---- statements
 
 module _ (st : State) (q : Prior) (o : Opens) (wide : (ys : List Placed) (qs : List Row) → Rest theRules strict at-statement o ys qs → Rest theRules strict st o ys qs) (h : closing q ≡ []) where
-  led : (X : List Piece) (r : Sense) (t : Await) → Core at-statement o X r t → Core st o (closing q ++ X) r t
-  led X r t c = subst (λ (l : List Piece). Core st o (l ++ X) r t) (sym h) (λ n ys qs s. wide _ _ (c n ys qs s))
+  led : (X : List WrittenPiece) (r : Sense) (t : Await) → Core at-statement o X r t → Core st o (closing q ++ X) r t
+  led X r t c = subst (λ (l : List WrittenPiece). Core st o (l ++ X) r t) (sym h) (λ n ys qs s. wide _ _ (c n ys qs s))
 
   fit-attribute : Fit st q o s-attribute (to t-value (kinds o))
   fit-attribute r (is-attribute {p}) v = (refl, g-value, led _ (attribute p) t-value (core-attribute o (newLine q (depth o)) p))
@@ -225,7 +222,7 @@ fit-statement st q (inside k n o) w h =
 
 -- ---- scalars, after what stands before them
 
-module _ (st : State) (q : Prior) (o : Opens) (c : Place) (a : Else) (lead : (X : List Piece) (r : Sense) (t : Await) → Core (at-scalar c a) o X r t → Core st o (apart q ++ X) r t) where
+module _ (st : State) (q : Prior) (o : Opens) (c : Place) (a : Else) (lead : (X : List WrittenPiece) (r : Sense) (t : Await) → Core (at-scalar c a) o X r t → Core st o (apart q ++ X) r t) where
   fit-number : Fit st q o s-number (to (t-number c) (kinds o))
   fit-number r (is-integer {w}) v = (refl, g-number, lead _ (an-integer w) (t-number c) (λ n ys qs s. via (at-scalar c a) o _ refl s))
   fit-number r (is-real {x}) v = (refl, g-number, lead _ (a-real x) (t-number c) (λ n ys qs s. via (at-scalar c a) o _ refl s))
@@ -271,7 +268,7 @@ fit-end in-set o = (fit-set-end o, tt)
 
 -- ---- after a scalar
 
-comma-lead : (g : Group) (o : Opens) (X : List Piece) (r : Sense) (t : Await) → Core (at-scalar (within g) no-else) o X r t → Core (at-member g) o (apart member ++ X) r t
+comma-lead : (g : Group) (o : Opens) (X : List WrittenPiece) (r : Sense) (t : Await) → Core (at-scalar (within g) no-else) o X r t → Core (at-member g) o (apart member ++ X) r t
 comma-lead g o X r t c n ys qs s = via (at-member g) o _ refl (c _ ys qs s)
 
 fit-member : (g : Group) (o : Opens) → AllFit (at-member g) member o (after-lines (within g) (kinds o))
@@ -288,7 +285,7 @@ wider-to st st′ q o r to-none w h = tt
 wider-to st st′ q o r (to t ks) w h = (h .0, h .1, λ n ys qs s. w _ _ (h .2 n ys qs s))
 
 wider-lines : (st st′ : State) (q : Prior) (o : Opens) → ((ys : List Placed) (qs : List Row) → Rest theRules strict st o ys qs → Rest theRules strict st′ o ys qs) →
-    (l : List Line) → AllFit st q o l → AllFit st′ q o l
+    (l : List RowLine) → AllFit st q o l → AllFit st′ q o l
 wider-lines st st′ q o w [] h = tt
 wider-lines st st′ q o w (k ↝ n ∷ l) h = (λ r sh v. wider-to st st′ q o r n w (h .0 r sh v), wider-lines st st′ q o w l (h .1))
 
@@ -309,7 +306,7 @@ Ends s-last = Unit {0}
 Ends (s-opened k) = Unit {0}
 Ends (s-closed k) = Unit {0}
 
-abbrev AllEnd : List Line → Type 0
+abbrev AllEnd : List RowLine → Type 0
 AllEnd [] = Unit {0}
 AllEnd (k ↝ n ∷ l) = Ends k × AllEnd l
 
@@ -320,10 +317,10 @@ after-end (within in-sequence) o = (tt, (tt, (tt, tt)))
 after-end (within in-row) o = (tt, (tt, (tt, tt)))
 after-end (within in-set) o = (tt, (tt, (tt, tt)))
 
-abbrev close : Piece
+abbrev close : WrittenPiece
 close = sign [] (62 ∷ []) greater
 
-factor-writes : (k : Sort) (r : Sense) → Shape k r → Ends k → (o : Opens) → piecesOf factor o r ≡ close ∷ piecesOf member o r
+factor-writes : (k : Sort) (r : Sense) → OfSort k r → Ends k → (o : Opens) → piecesOf factor o r ≡ close ∷ piecesOf member o r
 factor-writes k r is-attribute e o = refl
 factor-writes k r is-pointer e o = refl
 factor-writes k r is-opened e o = refl
@@ -345,9 +342,9 @@ factor-writes k r is-last e o = refl
 factor-to : (c : Place) (o : Opens) (r : Sense) (n : To) → piecesOf factor o r ≡ close ∷ piecesOf member o r → FitTo (after c) member o r n → FitTo (at-factor c) factor o r n
 factor-to c o r to-none e h = tt
 factor-to c o r (to t ks) e h =
-    (h .0, h .1, subst (λ (X : List Piece). Core (at-factor c) o X r t) (sym e) (λ n ys qs s. via (at-factor c) o _ refl (h .2 _ ys qs s)))
+    (h .0, h .1, subst (λ (X : List WrittenPiece). Core (at-factor c) o X r t) (sym e) (λ n ys qs s. via (at-factor c) o _ refl (h .2 _ ys qs s)))
 
-factor-lines : (c : Place) (o : Opens) (l : List Line) → AllEnd l → AllFit (after c) member o l → AllFit (at-factor c) factor o l
+factor-lines : (c : Place) (o : Opens) (l : List RowLine) → AllEnd l → AllFit (after c) member o l → AllFit (at-factor c) factor o l
 factor-lines c o [] e h = tt
 factor-lines c o (k ↝ n ∷ l) e h = (λ r sh v. factor-to c o r n (factor-writes k r sh (e .0) o) (h .0 r sh v), factor-lines c o l (e .1) (h .1))
 
@@ -360,7 +357,7 @@ fit-more c o r (is-divided {p} {w}) v = (refl, g-units, core-unit (at-factor c) 
 
 -- ---- all states
 
-plain-lead : (st : State) (o : Opens) (X : List Piece) (r : Sense) (t : Await) → Core st o X r t → Core st o X r t
+plain-lead : (st : State) (o : Opens) (X : List WrittenPiece) (r : Sense) (t : Await) → Core st o X r t → Core st o X r t
 plain-lead st o X r t c = c
 
 fit-lines : (t : Await) (q : Prior) (o : Opens) → Agrees t q → AllFit (state t) q o (lines t (kinds o))

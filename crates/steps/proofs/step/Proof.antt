@@ -1,5 +1,5 @@
--- `step`: the function of the mode that the element is met in does what the state asks.
-use Rattle.steps.proofs.Modes.{met}
+-- `step`: the function of what the element is met as does what the state asks.
+use Rattle.steps.proofs.Meeting.{met}
 use borrow.Author.Needs.{needs}
 use Rattle.steps.proofs.step.Statement.{statement}
 use Rattle.steps.proofs.step.Tie as tie

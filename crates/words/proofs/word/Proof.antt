@@ -2,9 +2,9 @@
 use borrow.Author.Needs.{needs}
 use Rattle.words.proofs.word.Statement.{statement}
 use Rattle.words.proofs.word.Tie as tie
-use Rattle.words.proofs.Words.{proper, meaning}
+use Rattle.words.proofs.Words.{written-in-digits, meaning}
 
-ruleset ways = (proper, meaning, needs)
+ruleset ways = (written-in-digits, meaning, needs)
 
 pub word-spec : {M : Type 1} → statement M
 word-spec =

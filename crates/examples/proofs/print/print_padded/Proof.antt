@@ -1,14 +1,14 @@
 -- `print::print_padded` meets its contract.
-use Prim.Native.Nat.{_-_, _≤_}
+use Prim.Native.Nat.{_≤_}
 use borrow.Author.Needs.{needs}
 use Rattle.examples.proofs.print.print_padded.Statement.{statement}
 use Rattle.examples.proofs.print.print_padded.Tie as tie
 
 abbrev Inv-loop : tie.InvT-loop
-Inv-loop n bound least₀ t4 least = 0 ≤ least
+Inv-loop n bound power₀ t4 power = 0 ≤ power
 
 abbrev μ-loop : tie.MeasureT-loop
-μ-loop n bound least₀ t4 least = least
+μ-loop n bound power₀ t4 power = power
 
 loop-holds : tie.Need-loop-holds Inv-loop μ-loop
 loop-holds c = search needs

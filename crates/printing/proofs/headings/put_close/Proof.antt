@@ -7,7 +7,7 @@ use Rattle.printing.proofs.Between.{lined}
 use Rattle.printing.proofs.Blocks.{close-row}
 
 returns : tie.Need-returns
-returns c = close-row (c .before .before .before .before .before .before .before .before .before .before .before .before .args .q) (c .before .before .before .before .before .before .before .before .before .before .before .before .args .d) (c .before .before .before .before .before .before .before .before .before .before .before .before .args .kind) (c .before .before .before .before .before .before .before .before .before .before .before .before .args .w .now) (c .before .before .before .before .before .before .before .before .before .outer .ensures) (lined (c .before .before .before .before .before .before .before .before .before .before .before .before .args .q) _ (c .before .before .before .before .before .before .before .put-line .ensures .0) (c .before .before .before .before .least .ensures) (c .before .before .put-closing .ensures .0)) (omega arith)
+returns c = close-row (c .before .before .before .before .before .before .before .before .before .before .before .before .args .q) (c .before .before .before .before .before .before .before .before .before .before .before .before .args .d) (c .before .before .before .before .before .before .before .before .before .before .before .before .args .kind) (c .before .before .before .before .before .before .before .before .before .before .before .before .args .w .now) (c .before .before .before .before .before .before .before .before .before .less-one .ensures) (lined (c .before .before .before .before .before .before .before .before .before .before .before .before .args .q) _ (c .before .before .before .before .before .before .before .put-line .ensures .0) (c .before .before .before .before .least .ensures) (c .before .before .put-closing .ensures .0)) (omega arith)
 
 pub put-close-spec : {M : Type 1} → statement M
 put-close-spec =

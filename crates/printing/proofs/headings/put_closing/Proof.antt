@@ -2,7 +2,7 @@
 use borrow.Author.Needs.{needs}
 use Rattle.printing.proofs.headings.put_closing.Statement.{statement}
 use Rattle.printing.proofs.headings.put_closing.Tie as tie
-use Rattle.parts.proofs.Laws.{onward}
+use Rattle.output.proofs.Laws.{onward}
 use native.Mathlib.Omega.{arith}
 use Rattle.printing.proofs.Blocks.{close-bare, close-named}
 

@@ -3,7 +3,7 @@ use borrow.Author.Needs.{needs}
 use Rattle.printing.proofs.lines.put_line_break.Statement.{statement}
 use Rattle.printing.proofs.lines.put_line_break.Tie as tie
 use Rattle.printing.proofs.Between.{break-is}
-use Rattle.parts.proofs.Laws.{nothing}
+use Rattle.output.proofs.Laws.{nothing}
 use mathlib.Core.Path.{refl}
 
 returns : tie.Need-returns

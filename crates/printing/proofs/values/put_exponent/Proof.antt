@@ -2,7 +2,7 @@
 use borrow.Author.Needs.{needs}
 use Rattle.printing.proofs.values.put_exponent.Statement.{statement}
 use Rattle.printing.proofs.values.put_exponent.Tie as tie
-use Rattle.parts.proofs.Laws.{onward}
+use Rattle.output.proofs.Laws.{onward}
 use native.Mathlib.Omega.{arith}
 use Rattle.printing.proofs.Symbols.{unwritten, raised}
 use mathlib.Core.Path.{refl}

@@ -2,7 +2,7 @@
 use borrow.Author.Needs.{needs}
 use Rattle.printing.proofs.values.put_op.Statement.{statement}
 use Rattle.printing.proofs.values.put_op.Tie as tie
-use Rattle.printing.proofs.Between.{op-is}
+use Rattle.printing.proofs.Symbols.{op-is}
 use mathlib.Core.Path.{refl}
 
 returns : tie.Need-returns

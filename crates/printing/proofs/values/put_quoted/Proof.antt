@@ -2,7 +2,7 @@
 use borrow.Author.Needs.{needs}
 use Rattle.printing.proofs.values.put_quoted.Statement.{statement}
 use Rattle.printing.proofs.values.put_quoted.Tie as tie
-use Rattle.printing.proofs.Chains.{onward-three}
+use Rattle.output.proofs.Laws.{onward-three}
 use native.Mathlib.Omega.{arith}
 
 returns : tie.Need-returns

@@ -5,8 +5,8 @@ use Prim.Native.Nat.{_-_}
 use lib.ListN.{length}
 use native.Mathlib.Omega.{arith}
 use Rattle.rules.proofs.Tables.Tests.{and-left}
-use Rattle.statements.proofs.Running.{Noting, resumes, noted, stays, ahead, name-places, again, early, faulty, refused-there, accepted-there, ends}
-use Rattle.statements.proofs.Turns.{may-push, turn-open, turn-close, turn-plain}
+use Rattle.statements.proofs.Running.{Noting, resumes, noted, still-reached, ahead, name-places, again, early, faulty, refused-there, accepted-there, hands-back}
+use Rattle.statements.proofs.Turns.{may-push, turn-open, turn-close, turn-nothing, turn-row}
 use borrow.Author.Needs.{needs}
 use borrow.Author.Tests.{leb-true}
 use Rattle.statements.proofs.passes.pass.Statement.{statement}
@@ -36,58 +36,64 @@ same-length : tie.Need-same-length Inv-loop μ-loop
 same-length c = c .before .before .before .before .before .before .loop .inv .running .long
 
 returns : tie.Need-returns Inv-loop μ-loop
-returns c = ends (early (c .before .before .before .before .before .before .loop .inv .running) (c .before .before .before .before .next .ensures) (c .before .before .p .given .1)) (held (c .before .before .before .before .before) .reached) (c .ended .ensures)
+returns c = hands-back (early (c .before .before .before .before .before .before .loop .inv .running) (c .before .before .before .before .next .ensures) (c .before .before .p .given .1)) (held (c .before .before .before .before .before) .reached) (c .ended .ensures)
 
 same-length-2 : tie.Need-same-length-2 Inv-loop μ-loop
 same-length-2 c = c .before .before .before .before .before .before .before .loop .inv .running .long
 
 returns-2 : tie.Need-returns-2 Inv-loop μ-loop
-returns-2 c = ends (faulty (c .before .before .before .before .before .before .before .loop .inv .running) (c .before .before .before .before .before .next .ensures) (c .before .before .before .c .given .1) (c .before .refusal .ensures)) (held (c .before .before .before .before .before .before) .reached) (c .ended2 .ensures)
+returns-2 c = hands-back (faulty (c .before .before .before .before .before .before .before .loop .inv .running) (c .before .before .before .before .before .next .ensures) (c .before .before .before .c .given .1) (c .before .refusal .ensures)) (held (c .before .before .before .before .before .before) .reached) (c .ended2 .ensures)
 
-add-row-requires : tie.Need-add-row-requires Inv-loop μ-loop
-add-row-requires c κs = omega (arith, c .before .before .before .before .before .before .before .loop .inv .running .sofar .small, c .before .before .before .before .before .before .before .loop .inv .running .sofar .within, c .before .before .before .before .before .before .before .before .before .before .before .before .pre .0)
-
-same-length-3 : tie.Need-same-length-3 Inv-loop μ-loop
-same-length-3 c = c .before .before .before .before .before .before .before .add-row .ensures .long ∙ c .before .before .before .before .before .before .before .before .before .before .before .before .before .before .before .loop .inv .running .long
-
-returns-3 : tie.Need-returns-3 Inv-loop μ-loop
-returns-3 c = let s = held (c .before .before .before .before .before .before .before .before .before .before .before .before .before .before) in ends (refused-there (s .running) (c .before .before .before .before .before .before .before .before .before .before .before .before .before .next .ensures) (c .before .before .before .before .before .before .before .before .before .before .before .e .given .1) (c .before .before .before .before .before .before .before .before .before .step .ensures) (c .before .before .before .row .given .1) (c .before .refusal2 .ensures)) (stays (s .reached) (s .behind) (c .before .before .before .before .before .before .before .add-row .ensures)) (c .ended3 .ensures)
-
-same-length-4 : tie.Need-same-length-4 Inv-loop μ-loop
-same-length-4 c = c .before .before .before .before .before .add-row .ensures .long ∙ c .before .before .before .before .before .before .before .before .before .before .before .before .before .loop .inv .running .long
-
-returns-4 : tie.Need-returns-4 Inv-loop μ-loop
-returns-4 c = let s = held (c .before .before .before .before .before .before .before .before .before .before .before .before) in ends (accepted-there (s .running) (c .before .before .before .before .before .before .before .before .before .before .before .next .ensures) (c .before .before .before .before .before .before .before .before .before .e .given .1) (c .before .before .before .before .before .before .before .step .ensures) (c .before .enum-told .given .1) (c .before .before .before .before .before .add-row .ensures)) (stays (s .reached) (s .behind) (c .before .before .before .before .before .add-row .ensures)) (c .ended4 .ensures)
-
-push-requires : tie.Need-push-requires Inv-loop μ-loop
-push-requires c κs = let z = may-push (c .before .before .before .before .before .before .before .step .ensures) (c .before .before .before .before .before .before .before .before .before .before .before .before .before .loop .inv .running .sound) (c .before .row2 .given .1) in let y = name-places (c .before .before .before .before .before .before .before .before .before .before .before .next .ensures) (c .before .before .before .before .before .before .before .before .before .e .given .1) (z .1) (c .before .before .before .before .before .before .before .before .before .before .before .before .before .before .before .before .before .before .pre .0) in (z .0, y .0, y .1)
-
-seen-requires : tie.Need-seen-requires Inv-loop μ-loop
-seen-requires c κs = omega (arith, may-push (c .before .before .before .before .before .before .before .before .step .ensures) (c .before .before .before .before .before .before .before .before .before .before .before .before .before .before .loop .inv .running .sound) (c .before .before .row2 .given .1) .0, c .push .ensures .1)
+add-rows-requires : tie.Need-add-rows-requires Inv-loop μ-loop
+add-rows-requires c κs = omega (arith, c .before .before .before .before .before .before .before .loop .inv .running .sofar .small, c .before .before .before .before .before .before .before .loop .inv .running .sofar .within, c .before .before .before .before .before .before .before .before .before .before .before .before .pre .0)
 
 loop-less : tie.Need-loop-less Inv-loop μ-loop
-loop-less c = let z = ahead (c .before .before .before .before .before .before .before .before .before .before .before .before .before .next .ensures) (c .before .before .before .before .before .before .before .before .before .before .before .e .given .1) in omega (arith, z .0, z .1)
+loop-less c = let z = ahead (c .before .before .before .before .before .before .before .before .before .before .before .next .ensures) (c .before .before .before .before .before .before .before .before .before .e .given .1) in omega (arith, z .0, z .1)
 
 loop-again : tie.Need-loop-again Inv-loop μ-loop
-loop-again c = again (held (c .before .before .before .before .before .before .before .before .before .before .before .before .before .before)) (c .before .before .before .before .before .before .before .before .before .before .before .before .before .next .ensures) (c .before .before .before .before .before .before .before .before .before .before .before .e .given .1) (turn-open (c .before .before .before .before .before .before .before .before .before .step .ensures) (c .before .before .before .before .before .before .before .before .before .before .before .before .before .before .before .loop .inv .running .sound) (c .before .before .before .row2 .given .1) (c .before .push .ensures) (c .seen .ensures)) (c .before .before .before .before .before .before .before .add-row .ensures)
+loop-again c = again (held (c .before .before .before .before .before .before .before .before .before .before .before .before)) (c .before .before .before .before .before .before .before .before .before .before .before .next .ensures) (c .before .before .before .before .before .before .before .before .before .e .given .1) (turn-nothing (c .before .before .before .before .before .before .before .step .ensures) (c .before .before .before .before .before .before .before .before .before .before .before .before .before .loop .inv .running .sound) (c .before .enum-told .given .1)) (c .before .before .before .before .before .add-rows .ensures)
 
-with-name-requires : tie.Need-with-name-requires Inv-loop μ-loop
-with-name-requires c κs = c .before .before .before .before .before .before .before .before .before .before .before .before .loop .inv .running .sound .within
+same-length-3 : tie.Need-same-length-3 Inv-loop μ-loop
+same-length-3 c = c .before .before .before .before .before .before .before .add-rows .ensures .long ∙ c .before .before .before .before .before .before .before .before .before .before .before .before .before .before .before .loop .inv .running .long
 
-seen-requires-2 : tie.Need-seen-requires-2 Inv-loop μ-loop
-seen-requires-2 c κs = omega (arith, c .before .before .before .before .before .before .before .before .before .before .before .before .before .before .loop .inv .running .sound .within, c .pop .ensures .1)
+returns-3 : tie.Need-returns-3 Inv-loop μ-loop
+returns-3 c = let s = held (c .before .before .before .before .before .before .before .before .before .before .before .before .before .before) in let a = c .before .before .before .before .before .before .before .add-rows .ensures in hands-back (refused-there (s .running) (c .before .before .before .before .before .before .before .before .before .before .before .before .before .next .ensures) (c .before .before .before .before .before .before .before .before .before .before .before .e .given .1) (c .before .before .before .before .before .before .before .before .before .step .ensures) (c .before .before .before .enum-told2 .given .1) (c .before .before .start-of .ensures) (c .before .refusal2 .ensures)) (still-reached (s .reached) (s .behind) a) (c .ended3 .ensures)
+
+same-length-4 : tie.Need-same-length-4 Inv-loop μ-loop
+same-length-4 c = c .before .before .before .before .before .before .before .add-rows .ensures .long ∙ c .before .before .before .before .before .before .before .before .before .before .before .before .before .before .before .loop .inv .running .long
+
+returns-4 : tie.Need-returns-4 Inv-loop μ-loop
+returns-4 c = let s = held (c .before .before .before .before .before .before .before .before .before .before .before .before .before .before) in let a = c .before .before .before .before .before .before .before .add-rows .ensures in hands-back (accepted-there (s .running) (c .before .before .before .before .before .before .before .before .before .before .before .before .before .next .ensures) (c .before .before .before .before .before .before .before .before .before .before .before .e .given .1) (c .before .before .before .before .before .before .before .before .before .step .ensures) (c .before .before .before .enum-told3 .given .1) (c .before .enum-told4 .given .1) a) (still-reached (s .reached) (s .behind) a) (c .ended4 .ensures)
+
+push-requires : tie.Need-push-requires Inv-loop μ-loop
+push-requires c κs = let z = may-push (c .before .before .before .before .before .before .before .before .before .step .ensures) (c .before .before .before .before .before .before .before .before .before .before .before .before .before .before .before .loop .inv .running .sound) (c .before .before .before .enum-told3 .given .1) (c .before .row .given .1) in let y = name-places (c .before .before .before .before .before .before .before .before .before .before .before .before .before .next .ensures) (c .before .before .before .before .before .before .before .before .before .before .before .e .given .1) (z .1) (c .before .before .before .before .before .before .before .before .before .before .before .before .before .before .before .before .before .before .before .before .pre .0) in (z .0, y .0, y .1)
+
+seen-requires : tie.Need-seen-requires Inv-loop μ-loop
+seen-requires c κs = omega (arith, may-push (c .before .before .before .before .before .before .before .before .before .before .step .ensures) (c .before .before .before .before .before .before .before .before .before .before .before .before .before .before .before .before .loop .inv .running .sound) (c .before .before .before .before .enum-told3 .given .1) (c .before .before .row .given .1) .0, c .push .ensures .1)
 
 loop-less-2 : tie.Need-loop-less-2 Inv-loop μ-loop
-loop-less-2 c = let z = ahead (c .before .before .before .before .before .before .before .before .before .before .before .before .before .next .ensures) (c .before .before .before .before .before .before .before .before .before .before .before .e .given .1) in omega (arith, z .0, z .1)
+loop-less-2 c = let z = ahead (c .before .before .before .before .before .before .before .before .before .before .before .before .before .before .before .next .ensures) (c .before .before .before .before .before .before .before .before .before .before .before .before .before .e .given .1) in omega (arith, z .0, z .1)
 
 loop-again-2 : tie.Need-loop-again-2 Inv-loop μ-loop
-loop-again-2 c = again (held (c .before .before .before .before .before .before .before .before .before .before .before .before .before .before)) (c .before .before .before .before .before .before .before .before .before .before .before .before .before .next .ensures) (c .before .before .before .before .before .before .before .before .before .before .before .e .given .1) (turn-close (c .before .before .before .before .before .before .before .before .before .step .ensures) (c .before .before .before .before .before .before .before .before .before .before .before .before .before .before .before .loop .inv .running .sound) (c .before .before .before .enum-told2 .given .1) (c .before .before .with-name .ensures) (c .before .pop .ensures) (c .seen2 .ensures)) (c .before .before .before .before .before .before .before .add-row .ensures)
+loop-again-2 c = again (held (c .before .before .before .before .before .before .before .before .before .before .before .before .before .before .before .before)) (c .before .before .before .before .before .before .before .before .before .before .before .before .before .before .before .next .ensures) (c .before .before .before .before .before .before .before .before .before .before .before .before .before .e .given .1) (turn-open (c .before .before .before .before .before .before .before .before .before .before .before .step .ensures) (c .before .before .before .before .before .before .before .before .before .before .before .before .before .before .before .before .before .loop .inv .running .sound) (c .before .before .before .before .before .enum-told3 .given .1) (c .before .before .before .row .given .1) (c .before .push .ensures) (c .seen .ensures)) (c .before .before .before .before .before .before .before .before .before .add-rows .ensures)
+
+with-name-requires : tie.Need-with-name-requires Inv-loop μ-loop
+with-name-requires c κs = c .before .before .before .before .before .before .before .before .before .before .before .before .before .before .loop .inv .running .sound .within
+
+seen-requires-2 : tie.Need-seen-requires-2 Inv-loop μ-loop
+seen-requires-2 c κs = omega (arith, c .before .before .before .before .before .before .before .before .before .before .before .before .before .before .before .before .loop .inv .running .sound .within, c .pop .ensures .1)
 
 loop-less-3 : tie.Need-loop-less-3 Inv-loop μ-loop
-loop-less-3 c = let z = ahead (c .before .before .before .before .before .before .before .before .before .before .next .ensures) (c .before .before .before .before .before .before .before .before .e .given .1) in omega (arith, z .0, z .1)
+loop-less-3 c = let z = ahead (c .before .before .before .before .before .before .before .before .before .before .before .before .before .before .before .next .ensures) (c .before .before .before .before .before .before .before .before .before .before .before .before .before .e .given .1) in omega (arith, z .0, z .1)
 
 loop-again-3 : tie.Need-loop-again-3 Inv-loop μ-loop
-loop-again-3 c = again (held (c .before .before .before .before .before .before .before .before .before .before .before)) (c .before .before .before .before .before .before .before .before .before .before .next .ensures) (c .before .before .before .before .before .before .before .before .e .given .1) (turn-plain (c .before .before .before .before .before .before .step .ensures) (c .before .before .before .before .before .before .before .before .before .before .before .before .loop .inv .running .sound) (c .before .match2 .keys5)) (c .before .before .before .before .add-row .ensures)
+loop-again-3 c = again (held (c .before .before .before .before .before .before .before .before .before .before .before .before .before .before .before .before)) (c .before .before .before .before .before .before .before .before .before .before .before .before .before .before .before .next .ensures) (c .before .before .before .before .before .before .before .before .before .before .before .before .before .e .given .1) (turn-close (c .before .before .before .before .before .before .before .before .before .before .before .step .ensures) (c .before .before .before .before .before .before .before .before .before .before .before .before .before .before .before .before .before .loop .inv .running .sound) (c .before .before .before .before .before .enum-told3 .given .1) (c .before .before .before .enum-told5 .given .1) (c .before .before .with-name .ensures) (c .before .pop .ensures) (c .seen2 .ensures)) (c .before .before .before .before .before .before .before .before .before .add-rows .ensures)
+
+loop-less-4 : tie.Need-loop-less-4 Inv-loop μ-loop
+loop-less-4 c = let z = ahead (c .before .before .before .before .before .before .before .before .before .before .before .before .next .ensures) (c .before .before .before .before .before .before .before .before .before .before .e .given .1) in omega (arith, z .0, z .1)
+
+loop-again-4 : tie.Need-loop-again-4 Inv-loop μ-loop
+loop-again-4 c = again (held (c .before .before .before .before .before .before .before .before .before .before .before .before .before)) (c .before .before .before .before .before .before .before .before .before .before .before .before .next .ensures) (c .before .before .before .before .before .before .before .before .before .before .e .given .1) (turn-row (c .before .before .before .before .before .before .before .before .step .ensures) (c .before .before .before .before .before .before .before .before .before .before .before .before .before .before .loop .inv .running .sound) (c .before .before .enum-told3 .given .1) (c .before .match3 .keys4)) (c .before .before .before .before .before .before .add-rows .ensures)
 
 pub pass-spec : {M : Type 1} → statement M
 pass-spec =
@@ -110,12 +116,17 @@ pass-spec =
     returns-2
     (λ c. search needs)
     (λ c κs. search needs)
-    add-row-requires
+    add-rows-requires
     (λ c. search needs)
+    loop-less
+    loop-again
+    (λ c. search needs)
+    (λ c κs. search needs)
     (λ c κs. search needs)
     (λ c κs. search needs)
     same-length-3
     returns-3
+    (λ c. search needs)
     (λ c. search needs)
     (λ c κs. search needs)
     same-length-4
@@ -123,13 +134,13 @@ pass-spec =
     (λ c. search needs)
     push-requires
     seen-requires
-    loop-less
-    loop-again
+    loop-less-2
+    loop-again-2
     (λ c. search needs)
     with-name-requires
     (λ c κs. search needs)
     seen-requires-2
-    loop-less-2
-    loop-again-2
     loop-less-3
-    loop-again-3)
+    loop-again-3
+    loop-less-4
+    loop-again-4)

@@ -10,6 +10,7 @@ block-equals-spec =
     (tie.spec
     (λ c κs. search needs)
     (λ c κs. search needs)
+    (λ c κs. search needs)
     (λ c. search openings)
     (λ c κs. search needs)
     (λ c. search openings))

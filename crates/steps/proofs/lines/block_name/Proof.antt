@@ -12,4 +12,5 @@ block-name-spec =
     (λ c κs. search needs)
     (λ c. search openings)
     (λ c κs. search needs)
+    (λ c κs. search needs)
     (λ c. search openings))

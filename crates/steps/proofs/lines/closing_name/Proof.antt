@@ -15,6 +15,7 @@ closing-name-spec =
     (λ c κs. search needs)
     (λ c κs. search needs)
     (λ c κs. search needs)
+    (λ c κs. search needs)
     (λ c. search closings)
     (λ c κs. search needs)
     (λ c. search closings))

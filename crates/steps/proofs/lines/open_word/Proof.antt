@@ -12,4 +12,5 @@ open-word-spec =
     (λ c κs. search needs)
     (λ c. search begins)
     (λ c κs. search needs)
+    (λ c κs. search needs)
     (λ c. search begins))

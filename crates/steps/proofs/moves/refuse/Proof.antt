@@ -1,10 +1,12 @@
 -- `moves::refuse` meets its contract.
+use Rattle.steps.specs.Steps.{giving}
 use borrow.Author.Needs.{needs}
 use Rattle.steps.proofs.moves.refuse.Statement.{statement}
 use Rattle.steps.proofs.moves.refuse.Tie as tie
 
 returns : tie.Need-returns
-returns c = rw (c .start-of .ensures)
+unfolding giving
+returns c = c .rowless .ensures
 
 pub refuse-spec : {M : Type 1} → statement M
 refuse-spec =

@@ -1,5 +1,5 @@
--- `settled`: the mode that an element is met in.
-use Rattle.steps.proofs.Modes.{met}
+-- `settled`: what an element is met as.
+use Rattle.steps.proofs.Meeting.{met}
 use borrow.Author.Needs.{needs}
 use Rattle.steps.proofs.moves.settled.Statement.{statement}
 use Rattle.steps.proofs.moves.settled.Tie as tie

@@ -10,9 +10,12 @@ after-exponent-spec =
     (tie.spec
     (λ c κs. search needs)
     (λ c κs. search needs)
-    (λ c. search ways)
     (λ c κs. search needs)
     (λ c. search ways)
+    (λ c κs. search needs)
+    (λ c κs. search needs)
+    (λ c. search ways)
+    (λ c κs. search needs)
     (λ c κs. search needs)
     (λ c. search ways)
     (λ c κs. search needs)

@@ -14,4 +14,5 @@ exponent-spec =
     (λ c κs. search needs)
     (λ c. search ways)
     (λ c κs. search needs)
+    (λ c κs. search needs)
     (λ c. search ways))

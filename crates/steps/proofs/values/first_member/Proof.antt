@@ -10,6 +10,7 @@ first-member-spec =
     (tie.spec
     (λ c κs. search needs)
     (λ c κs. search needs)
+    (λ c κs. search needs)
     (λ c. search ways)
     (λ c κs. search needs)
     (λ c. search ways))

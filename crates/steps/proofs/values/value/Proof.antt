@@ -10,7 +10,9 @@ value-spec =
     (tie.spec
     (λ c κs. search needs)
     (λ c κs. search needs)
+    (λ c κs. search needs)
     (λ c. search ways)
+    (λ c κs. search needs)
     (λ c κs. search needs)
     (λ c. search ways)
     (λ c κs. search needs)

@@ -9,7 +9,6 @@ good-span-spec =
     tie.close
     (tie.spec
     (λ c. search needs)
-    (λ c. search needs)
     (λ c κs. search spans)
     (λ c. search needs)
     (λ c κs. search spans)
@@ -30,9 +29,6 @@ good-span-spec =
     (λ c. search needs)
     (λ c. search needs)
     (λ c. search needs)
-    (λ c. search needs)
-    (λ c. search spans)
-    (λ c. search spans)
     (λ c. search spans)
     (λ c. search spans)
     (λ c. search spans)

@@ -1,0 +1,33 @@
+-- Each turn of the loop is one constructor of the rule.
+use Prim.Native.Nat.{_-_}
+use borrow.Author.Needs.{needs}
+use lib.ListN.{length}
+use Rattle.rules.specs.Elements.{inComment}
+use Rattle.classes.proofs.Runs.{Passing, start, comment-turn, comment-stop, comment-last}
+use Rattle.elements.proofs.ends.comment_end.Statement.{statement}
+use Rattle.elements.proofs.ends.comment_end.Tie as tie
+
+ruleset ways = (start, comment-turn, comment-stop, comment-last, needs)
+
+abbrev Inv-loop : tie.InvT-loop
+Inv-loop label at i₀ i = Passing inComment label at i
+
+abbrev μ-loop : tie.MeasureT-loop
+μ-loop label at i₀ i = length label - i
+
+pub comment-end-spec : {M : Type 1} → statement M
+comment-end-spec =
+    tie.close
+    (tie.spec
+    Inv-loop
+    μ-loop
+    (λ c. search ways)
+    (λ c. search needs)
+    (λ c. search needs)
+    (λ c κs. search needs)
+    (λ c κs. search needs)
+    (λ c. search ways)
+    (λ c. search needs)
+    (λ c. search needs)
+    (λ c. search ways)
+    (λ c. search ways))

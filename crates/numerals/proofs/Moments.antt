@@ -1,0 +1,67 @@
+-- Numbers, dates and times, by their signs and parts.
+use Prim.Native.Nat.{ℕ, zero, suc, _/_, _%_}
+use mathlib.Core.Bool.{Bool, true, false, cond}
+use mathlib.Core.Path.{_≡_, refl, ap, sym, _∙_}
+use mathlib.Core.List.{List, [], _∷_, _++_, append-assoc}
+use borrow.Author.Tests.{eq-eqb, ne-eqb}
+use lib.Dec.{eqb}
+use Rattle.words.specs.declared.Moment.{Moment}
+use Rattle.rules.specs.Values.{significant}
+use Rattle.rules.specs.Written.{wide, digits, decimal, dateBytes, fraction, zone, timeBytes, momentBytes}
+use Rattle.words.specs.Says.{whole, momentOf}
+use Rattle.output.specs.Puts.{Puts}
+use Rattle.output.proofs.Laws.{same-part, nothing}
+use Rattle.numerals.specs.Counts.{Counted, Trimmed}
+use Rattle.numerals.specs.declared.times.Fraction.{Fraction}
+
+module _ {room out : List ℕ} {r : ℕ} where
+  pub counted : {n k : ℕ} → Counted n k → Puts (wide k n) room out r → Puts (digits n) room out r
+  counted c p = same-part (sym (c .are)) p
+
+  pub minus : {m : Bool} (n : ℕ) → m ≡ true → Puts (45 ∷ digits n) room out r → Puts (decimal (whole m n)) room out r
+  minus n h p = rw h p
+
+  pub no-minus : {m : Bool} (n : ℕ) → m ≡ false → Puts (digits n) room out r → Puts (decimal (whole m n)) room out r
+  no-minus n h p = rw h p
+
+  -- a test of 0
+  pub is-zero : (n : ℕ) (a : ℕ) (x y : List ℕ) → n ≡ 0 → Puts (a ∷ x) room out r → Puts (a ∷ cond (eqb n 0) x y) room out r
+  is-zero n a x y h p = rw (eq-eqb n 0 h) p
+
+  pub not-zero : (n : ℕ) (a : ℕ) (x y : List ℕ) → (n ≡ 0 → ⊥) → Puts (a ∷ y) room out r → Puts (a ∷ cond (eqb n 0) x y) room out r
+  not-zero n a x y h p = rw (ne-eqb n 0 h) p
+
+  -- the decimals of a second
+  pub no-fraction : {f : Fraction} {n : ℕ} → Trimmed n f → f .size ≡ 0 → room ≡ out → r ≡ 0 → Puts (fraction (significant (wide 9 n))) room out r
+  unfolding wide
+  no-fraction {f} {n} t h e z = rw (t .are, h, e, z) (nothing out)
+
+  pub some-fraction : {f : Fraction} {n : ℕ} → Trimmed n f → (f .size ≡ 0 → ⊥) → Puts (46 ∷ wide (f .size) (f .value)) room out r → Puts (fraction (significant (wide 9 n))) room out r
+  unfolding wide
+  some-fraction {f} {n} t h p = rw (t .are) (go (f .size) h p)
+    where
+      go : (k : ℕ) → (k ≡ 0 → ⊥) → Puts (46 ∷ wide k (f .value)) room out r → Puts (fraction (wide k (f .value))) room out r
+      go zero h p = absurd (h refl)
+      go (suc k) h p = p
+
+  -- zones
+  pub no-zone : (w : Bool) (o : ℕ) → o ≡ 0 → Puts (90 ∷ []) room out r → Puts (zone (whole w o)) room out r
+  no-zone w o h p = rw (eq-eqb o 0 h) p
+
+  pub some-zone : (w : Bool) {m : ℕ} (o : ℕ) → (o ≡ 0 → ⊥) → m ≡ cond w 45 43 → Puts ((m ∷ wide 2 (o / 60)) ++ (58 ∷ wide 2 (o % 60))) room out r → Puts (zone (whole w o)) room out r
+  some-zone w o h e p = rw (ne-eqb o 0 h, ← e) p
+
+  pub in-time : (x : Moment) → Puts ((wide 2 (x .hour) ++ ((58 ∷ wide 2 (x .minute)) ++ (58 ∷ wide 2 (x .second)))) ++ (fraction (significant (wide 9 (x .nanoseconds))) ++ zone (whole (x .west) (x .offset)))) room out r →
+      Puts (timeBytes (momentOf x)) room out r
+  in-time x p =
+      same-part (append-assoc (wide 2 (x .hour)) ((58 ∷ wide 2 (x .minute)) ++ (58 ∷ wide 2 (x .second))) _
+      ∙ ap (λ (l : List ℕ). wide 2 (x .hour) ++ (58 ∷ l)) (append-assoc (wide 2 (x .minute)) (58 ∷ wide 2 (x .second)) _)) p
+
+  pub a-date : (x : Moment) → x .parts ≡ 1 → Puts (dateBytes (momentOf x)) room out r → Puts (momentBytes (momentOf x)) room out r
+  a-date x h p = rw (eq-eqb (x .parts) 1 h) p
+
+  pub a-time : (x : Moment) → (x .parts ≡ 1 → ⊥) → x .parts ≡ 2 → Puts (timeBytes (momentOf x)) room out r → Puts (momentBytes (momentOf x)) room out r
+  a-time x g h p = rw (ne-eqb (x .parts) 1 g, eq-eqb (x .parts) 2 h) p
+
+  pub both : (x : Moment) → (x .parts ≡ 1 → ⊥) → (x .parts ≡ 2 → ⊥) → Puts (dateBytes (momentOf x) ++ (84 ∷ timeBytes (momentOf x))) room out r → Puts (momentBytes (momentOf x)) room out r
+  both x g h p = rw (ne-eqb (x .parts) 1 g, ne-eqb (x .parts) 2 h) p

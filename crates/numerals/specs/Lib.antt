@@ -1,0 +1,2 @@
+-- The terms of this crate's contracts.
+pub mod Counts

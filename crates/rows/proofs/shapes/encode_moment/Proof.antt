@@ -1,0 +1,21 @@
+-- `shapes::encode_moment` meets its contract.
+use Rattle.rows.proofs.Writing.{onward}
+use borrow.Author.Needs.{needs}
+use Rattle.rows.proofs.shapes.encode_moment.Statement.{statement}
+use Rattle.rows.proofs.shapes.encode_moment.Tie as tie
+
+returns : tie.Need-returns
+returns c = onward (c .before .before .before .before .before .before .encode-date .ensures) (c .before .before .encode-clock .ensures)
+
+pub encode-moment-spec : {M : Type 1} → statement M
+encode-moment-spec =
+    tie.close
+    (tie.spec
+    (λ c κs. search needs)
+    (λ c. search needs)
+    (λ c. search needs)
+    (λ c. search needs)
+    (λ c κs. search needs)
+    (λ c. search needs)
+    (λ c. search needs)
+    returns)
