@@ -6,6 +6,7 @@ use lib.ListN.{length}
 use Rattle.rules.specs.Reading.{longest}
 use Rattle.rules.specs.Proper.{Verdict, proper-rows, improper-at, Ruled}
 use Rattle.rules.proofs.Tables.Judge.{not-both, verdict-once}
+use Rattle.rules.proofs.Written.Outcome.{same-place}
 use Rattle.blocks.specs.declared.Blocks.{Blocks}
 use Rattle.table.specs.Ordering.{Nesting}
 use Rattle.table.specs.Judging.{Judges, proper, improper, said, verdictSaid}
@@ -18,9 +19,6 @@ pub nested-once : {n : ℕ} {b r r′ : Blocks} → Nesting n b r → Nesting n 
 nested-once x y = x .on ∙ sym (y .on)
 
 -- ---- the verdict
-
-same-place : {at at′ : ℕ} → improper-at at ≡ improper-at at′ → at ≡ at′
-same-place e = cc
 
 pub check-once : {label lent : List ℕ} {c c′ : Checked} → length label ≤ longest → Judges label lent c → Judges label lent c′ → c ≡ c′
 check-once l (proper rs v) (proper qs w) = refl

@@ -1,18 +1,17 @@
 -- Times: the nanoseconds of decimals, the limits of each part, and the zone.
-use Prim.Native.Nat.{ℕ, suc, _+_, _-_, _*_, _^_, _≤_, _<_, min}
+use Prim.Native.Nat.{ℕ, _+_, _-_, _*_, _^_, _≤_, _<_, min}
 use mathlib.Core.Bool.{Bool, true, false, cond, not, _&&_}
 use mathlib.Core.Path.{_≡_, refl, sym, ap, _∙_}
 use mathlib.Core.List.{List, [], _∷_}
-use native.Mathlib.Nat.{pow-zero, pow-succ', mul-assoc, mul-one, one-mul, mul-le-mul, mul-lt-mul-of-pos-right, pow-le-pow-right}
+use native.Mathlib.Nat.{one-mul, mul-le-mul, mul-lt-mul-of-pos-right, pow-le-pow-right}
 use native.Mathlib.Omega.{arith}
 use borrow.Author.Tests.{eqb-true, leb-true, lt-ltb, le-ltb, le-leb, lt-leb}
 use lib.Dec.{eqb, leb, ltb}
 use lib.ListN.{length, getD, take}
 use lib.Pow.{pow-add}
 use lib.Seq.{length-take-le}
-use Rattle.rules.specs.Bytes.{All, none, one, digit}
+use Rattle.rules.specs.Bytes.{All, digit}
 use Rattle.rules.specs.Values.{number, onto, significant, Day, Zone as ZoneR, Time as TimeR, dayOf, noDay, a-date, a-date-time}
-use Rattle.rules.proofs.Words.Runs.{both}
 use Rattle.forms.specs.declared.Clock.{Clock}
 use Rattle.forms.specs.declared.Date.{Date}
 use Rattle.forms.specs.declared.Stamp.{Stamp}
@@ -27,6 +26,7 @@ use Rattle.words.specs.Says.{Worth}
 use Rattle.words.specs.Parts.{Significant}
 use Rattle.words.specs.Days.{dayIs, dayIfAny, yearOf}
 use Rattle.words.specs.Times.{nanos, nanosOf, InZone, Timed, InDigits}
+use Rattle.rules.proofs.Tables.ElementLimits.{onto-bound}
 use Rattle.rules.proofs.Tables.Tests.{and-false}
 use Rattle.rules.proofs.Written.PrintedMoments.{significant-all}
 use Rattle.words.proofs.Calendar.{upto}
@@ -44,16 +44,6 @@ ten-most e h = leb-true (getD tens e 0) 1000000000 (upto (λ i. leb (getD tens i
 
 ten-least : (e : ℕ) → e ≤ 9 → 1 ≤ getD tens e 0
 ten-least e h = leb-true 1 (getD tens e 0) (upto (λ i. leb 1 (getD tens i 0)) 10 refl e (omega arith))
-
--- digits after a number below c make one below c times the power
-onto-bound : (n c : ℕ) {s : List ℕ} → All digit s → n < c → onto n s < c * 10 ^ length s
-onto-bound n c none h = rw (pow-zero, mul-one) h
-onto-bound n c (one {b} {s} k ks) h =
-    let o = both (leb 48 b) (leb b 57) k in
-    let l = leb-true 48 b (o .0) in
-    let m = leb-true b 57 (o .1) in
-    let e : c * 10 ^ suc (length s) ≡ c * 10 * 10 ^ length s = rw (pow-succ', mul-assoc) in
-    rw e (onto-bound (n * 10 + (b - 48)) (c * 10) ks (omega arith))
 
 pub number-bound : {s : List ℕ} → All digit s → number s < 10 ^ length s
 number-bound {s} h = rw one-mul at (onto-bound 0 1 h (omega arith))

@@ -12,6 +12,7 @@ use lib.ListN.{length, getD, take, length-append}
 use lib.Seq.{take-all, take-suc, length-take-le}
 use Rattle.rules.specs.Data.{Whole}
 use Rattle.rules.specs.Values.{onto, number, signed, each, significant, moved, realKept, a-decimal}
+use Rattle.rules.proofs.Words.Worth.{all-zeros}
 use Rattle.rules.proofs.Tables.Tests.{and-false}
 use Rattle.words.specs.declared.Value.{Value}
 use Rattle.words.specs.declared.Value.the-variants.{Float, Past}
@@ -47,14 +48,6 @@ zeros-behind (d ∷ a) b h = rw (each-zeros a b h, zeros-behind a b h)
 digit-behind : (a b : List ℕ) → each nought b ≡ false → significant (a ++ b) ≡ a ++ significant b
 digit-behind [] b h = refl
 digit-behind (d ∷ a) b h = rw (each-other a b h, and-false (eqb d 48), digit-behind a b h)
-
-all-noughts : (s : List ℕ) → significant s ≡ [] → each nought s ≡ true
-all-noughts [] e = refl
-all-noughts (d ∷ s) e = go (each nought (d ∷ s)) refl e
-  where
-    go : (t : Bool) → each nought (d ∷ s) ≡ t → cond t [] (d ∷ significant s) ≡ [] → each nought (d ∷ s) ≡ true
-    go true h e = h
-    go false h e = absurd (let z : suc (length (significant s)) ≡ 0 = ap length e in omega arith)
 
 pub record Trimming (s : List ℕ) (j : ℕ) : Type 0 where
   pub within : j ≤ length s
@@ -187,7 +180,7 @@ module _ (neg : Bool) (m : ℕ) (below : Bool) (scale up down plus minus : ℕ) 
 -- ---- the digits of a real
 
 first-zero : (fs : List ℕ) (i : ℕ) → Significant fs i → i ≡ 0 → each nought fs ≡ true
-first-zero fs i f e = all-noughts fs (f .is ∙ ap (λ (k : ℕ). take k fs) e)
+first-zero fs i f e = all-zeros fs (f .is ∙ ap (λ (k : ℕ). take k fs) e)
 
 not-zero : (fs : List ℕ) (i : ℕ) → Significant fs i → (i ≡ 0 → ⊥) → each nought fs ≡ false
 not-zero fs i f e = go (each nought fs) refl

@@ -9,16 +9,15 @@ use native.Mathlib.Omega.{arith}
 use borrow.Author.Tests.{leb-true}
 use lib.Dec.{leb}
 use lib.ListN.{length, length-take, length-drop}
-use Rattle.rules.specs.Bytes.{All, digit}
-use Rattle.rules.specs.Bytes as bytes
 use Rattle.rules.specs.Modes.{base}
 use Rattle.rules.specs.Reading.{longest}
-use Rattle.rules.specs.Values.{number, signed, a-whole, a-based, a-decimal, a-date, Date as Date-rule, Second, Time, Written}
+use Rattle.rules.specs.Values.{number, signed, a-whole, a-based, a-decimal, a-date, Date as Date-rule, Written}
 use Rattle.rules.specs.Words as words
-use Rattle.rules.specs.Words.{Digits, in-radix, pointed, bare, from-to, DateWord, year-doy, year-month-day, Seconds, no-second, second, decimal, TimeWord, time, upper-T, lower-t, Shape, identifier-word, integer-word, based-word, real-word, date-time-word, range-word}
+use Rattle.rules.specs.Words.{Digits, in-radix, pointed, bare, from-to, DateWord, year-doy, year-month-day, upper-T, lower-t, Shape, identifier-word, integer-word, based-word, real-word, date-time-word, range-word}
 use Rattle.rules.proofs.Words.Runs.{both}
 use Rattle.rules.proofs.Machine.Words.{g-word, shape, shaped, Classified}
 use Rattle.rules.proofs.Words.Shapes.{shape-sound}
+use Rattle.rules.proofs.Tables.ElementLimits.{second-digits}
 use Rattle.rules.proofs.Elements.Pieces.{classified}
 use Rattle.forms.specs.declared.Span.{Span}
 use Rattle.forms.specs.declared.Date.{Date}
@@ -79,14 +78,6 @@ four y Y =
 four-digits : {w : List ℕ} {d : Date-rule} → DateWord w d → yearOf d ≤ 9999
 four-digits (year-doy {y} Y N) = four y Y
 four-digits (year-month-day {y} Y M D) = four y Y
-
-decimal-digits : {w : List ℕ} {s : Second} → Seconds w s → All digit (s .decimals)
-decimal-digits no-second = bytes.none
-decimal-digits (second D) = bytes.none
-decimal-digits (decimal D F) = F
-
-second-digits : {w : List ℕ} {t : Time} → TimeWord w t → All digit (t .second .decimals)
-second-digits (time H M S Z) = decimal-digits S
 
 in-digits : {w : List ℕ} {v : Written} → Shape base w v → InDigits v
 in-digits (identifier-word N) = tt
