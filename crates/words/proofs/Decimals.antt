@@ -12,7 +12,7 @@ use lib.ListN.{length, getD, take, length-append}
 use lib.Seq.{take-all, take-suc, length-take-le}
 use Rattle.rules.specs.Data.{Whole}
 use Rattle.rules.specs.Values.{onto, number, signed, each, significant, moved, realKept, a-decimal}
-use Rattle.rules.proofs.Words.Worth.{all-zeros}
+use Rattle.rules.proofs.Words.Worth.{nought, all-zeros}
 use Rattle.rules.proofs.Tables.Tests.{and-false}
 use Rattle.words.specs.declared.Value.{Value}
 use Rattle.words.specs.declared.Value.the-variants.{Float, Past}
@@ -25,9 +25,6 @@ and-yes true = refl
 and-yes false = refl
 
 -- ---- digits without the zeros that end them
-
-abbrev nought : ℕ → Bool
-nought b = eqb b 48
 
 each-zeros : (a b : List ℕ) → each nought b ≡ true → each nought (a ++ b) ≡ each nought a
 each-zeros [] b h = h
