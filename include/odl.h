@@ -87,7 +87,8 @@ enum odl_row {
     ODL_SYMBOL = 14,      /* span: 4 */
     ODL_UNIT = 15,        /* joint 1 (see below), span of the name 4, signed
                              exponent 1; stands after its number */
-    ODL_SEQUENCE = 20,    /* nothing; members follow */
+    ODL_SEQUENCE = 20,    /* nothing; members follow: scalars, or sequences of
+                             scalars */
     ODL_END_SEQUENCE = 21, /* nothing */
     ODL_SET = 22,         /* nothing; members follow */
     ODL_END_SET = 23,     /* nothing */
@@ -105,7 +106,8 @@ enum odl_joint { ODL_FIRST = 0, ODL_TIMES = 1, ODL_DIVIDED = 2 };
  * bytes after END are not looked at, but for the first. On 11 *length is the
  * room needed: call once with length 0 to learn it, or lend five times the
  * label's length, which is always enough. On all other codes *length is 0 and
- * *place is where the first fault is. */
+ * *place is where the first fault is. A sequence of sequences has one comma
+ * between its rows, ((1, 2), (3, 4)); side by side is 6 at the second row. */
 uint8_t odl_read(const uint8_t *label, size_t label_len,
                  uint8_t *table, size_t table_len,
                  size_t *place, size_t *length);

@@ -24,7 +24,7 @@ const STATEMENTS: [(&str, &str); 14] = [
         "NOTE",
         "\"Routine multispectral longitude coverage, 1 of 7 frames\"",
     ),
-    ("CORNERS", "((0,0)(799,0)(799,599.5))"),
+    ("CORNERS", "((0,0),(799,0),(799,599.5))"),
     ("FILTERS", "(CLEAR,VIOLET,BLUE,GREEN,ORANGE)"),
     ("FLAGS", "{CALIBRATED,7,\"x\"}"),
     ("LINES", "-600"),

@@ -134,7 +134,7 @@ class Reading(unittest.TestCase):
 
     def test_sequences_and_sets(self):
         self.assertEqual(value(b"(1, B, \"c\")"), [1, "B", "c"])
-        self.assertEqual(value(b"((1, 2)(3))"), [[1, 2], [3]])
+        self.assertEqual(value(b"((1, 2), (3))"), [[1, 2], [3]])
         self.assertEqual(value(b"(1 <M>, 2)"), [Quantity(1, (Unit("", "M", 1),)), 2])
         self.assertEqual(value(b"{2, 1, 2}"), Set([2, 1, 2]))
         self.assertIs(type(value(b"{}")), Set)
@@ -187,6 +187,7 @@ class Refusing(unittest.TestCase):
             (b"A=1990-366 END", 5, 2),
             (b"A='' END", 4, 2),
             (b"A=() END", 6, 3),
+            (b"A=((1)(2)) END", 6, 6),
             (b"OBJECT=X END_OBJECT=Y END", 7, 20),
             (b"END;", 9, 0),
             (b"A=1 /*/ END", 3, 4),
@@ -218,6 +219,11 @@ class Relabelling(unittest.TestCase):
     def test_example(self):
         self.assertEqual(odl.relabel(CAMERA), CANONICAL)
         self.assertEqual(odl.relabel(CANONICAL), CANONICAL)
+
+    def test_rows(self):
+        written = b"A = ((1, 2), (3, 4))\r\nEND\r\n"
+        self.assertEqual(odl.relabel(b"A=((1,2),(3,4)) END"), written)
+        self.assertEqual(odl.relabel(written), written)
 
     def test_reading_back_gives_the_same(self):
         with open(os.path.join(ROOT, "examples", "camera.lbl"), "rb") as stream:
@@ -253,6 +259,7 @@ class Comparing(unittest.TestCase):
             b'END\r\nand frames \xff"'
         )
         self.answers([(plain, relaid), (CAMERA, CANONICAL), (b"END", b" END &")], True)
+        self.values([(b"((1),(2))", b"( (1) /* a row */\n, (2) )")], True)
 
     def test_case_and_closing_names_have_no_meaning(self):
         folded = b"GROUP=RIG A=IO B='NEAR-IR' C=1<KM> END_GROUP=RIG END"
@@ -280,6 +287,7 @@ class Comparing(unittest.TestCase):
             (b"1 <M>", b"1 <S>"),
             (b"{1, 2}", b"{2, 1}"),
             (b"{1}", b"(1)"),
+            (b"((1, 2))", b"((1), (2))"),
             (b"'A'", b'"A"'),
             (b'"io"', b'"IO"'),
             (b'"Jupi-\nter"', b'"Jupi- \nter"'),

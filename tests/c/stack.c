@@ -150,7 +150,8 @@ int main(void) {
     measure_all("81 blocks", ODL_TOO_DEEP, 0, 0, 0);
     fill("A=(", "1,", 65535, "1)END");
     measure_all("a long sequence", ODL_ACCEPTED, ODL_WRITTEN_TOO_LONG, 0, ODL_NAME_ABSENT);
-    fill("A=((", "1)(", 20000, "1))END");
+    /* Each row takes 5 bytes when it is written. */
+    fill("A=((", "1),(", 13000, "1))END");
     measure_all("a long sequence of sequences", ODL_ACCEPTED, ODL_ACCEPTED, 0, ODL_NAME_ABSENT);
     fill("A=\"", "x-\n ", 65535, "\" END");
     measure_all("a long text", ODL_ACCEPTED, ODL_ACCEPTED, 5, ODL_NAME_ABSENT);

@@ -117,12 +117,13 @@ const EXAMPLE: &str = "object = cam /* rig 4 */ ignored\n start = 1990-158T15:24
 const EXAMPLE_WRITTEN: &str = "OBJECT = CAM\r\n  START = 1990-06-07T15:24:12Z\r\n  \
     HOLD = 15.E-1 <SEC>\r\nEND_OBJECT = CAM\r\nEND\r\n";
 
+fn refused(label: &str, code: u8, place: usize) -> (Vec<u8>, String) {
+    let line = format!("REFUSED {code} {place}\r\n");
+    (label.as_bytes().to_vec(), line)
+}
+
 /// Inputs with what the documents say is printed, worked out by hand.
 fn listed() -> Vec<(Vec<u8>, String)> {
-    let refused = |label: &str, code: u8, place: usize| {
-        let line = format!("REFUSED {code} {place}\r\n");
-        (label.as_bytes().to_vec(), line)
-    };
     let nested = "OBJECT=X ".repeat(81);
     let mut list = vec![
         refused("", 10, 0),
@@ -147,7 +148,21 @@ fn listed() -> Vec<(Vec<u8>, String)> {
         list.push((label, "REFUSED 1 65535\r\n".to_string()));
     }
     list.extend(about_as_long_as_may_be());
+    list.extend(rows());
     list
+}
+
+/// Rows are separated by one comma (02 §2).
+fn rows() -> [(Vec<u8>, String); 6] {
+    let written = "A = ((1, 2), (3, 4))\r\nEND\r\n";
+    [
+        ("A=((1,2),(3,4)) END".into(), written.to_string()),
+        (written.into(), written.to_string()),
+        refused("A=((1,2)(3,4)) END", 6, 8),
+        refused("A=((1,2),,(3,4)) END", 6, 9),
+        refused("A=((1,2),) END", 6, 9),
+        refused("A=((1,2),", 10, 9),
+    ]
 }
 
 /// Tables and written labels of 65,535 bytes, and of 65,536.

@@ -77,7 +77,7 @@ fn values_have_their_types() {
     assert!(value("10:00-00:30").contains("offset: -30"));
     assert_eq!(value("{}"), "Set EndSet");
     assert_eq!(
-        value("((1)(2))"),
+        value("((1),(2))"),
         "Sequence Sequence Integer(1) EndSequence Sequence Integer(2) EndSequence EndSequence"
     );
     assert_eq!(value("'it'"), "Symbol(Name(\"it\"))");
@@ -95,6 +95,10 @@ fn labels_are_written() {
     assert_eq!(odl::relabel(CAMERA).unwrap(), CANONICAL);
     assert_eq!(odl::relabel(CANONICAL).unwrap(), CANONICAL);
     assert_eq!(odl::relabel(b"END").unwrap(), b"END\r\n");
+    assert_eq!(
+        odl::relabel(b"A=((1,2),(3)) END").unwrap(),
+        b"A = ((1, 2), (3))\r\nEND\r\n"
+    );
 }
 
 #[test]
@@ -103,6 +107,7 @@ fn refusals_have_code_and_place() {
     assert_eq!(refusal(b"A=1990-366 END"), (Code::PastLimit, 2));
     assert_eq!(refusal(b"A='' END"), (Code::NoForm, 2));
     assert_eq!(refusal(b"A=() END"), (Code::Misplaced, 3));
+    assert_eq!(refusal(b"A=((1)(2)) END"), (Code::Misplaced, 6));
     assert_eq!(refusal(b"OBJECT=X END_OBJECT=Y END"), (Code::OtherName, 20));
     assert_eq!(refusal(b"END;"), (Code::EndNotSetOff, 0));
     assert_eq!(refusal(b"A=1 /*/ END"), (Code::LeftOpen, 4));

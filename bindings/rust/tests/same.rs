@@ -34,6 +34,10 @@ fn layout_has_no_meaning() {
         F = { /* none */ }\x0b }\r\n  N\n=\n\"a  b\"\r\nEND_OBJECT = CAM\r\nEND\r\nand frames \xff\"";
     assert_eq!(both_ways(plain, relaid), [Ok(true); 2]);
     assert_eq!(both_ways(b"END", b" END &"), [Ok(true); 2]);
+    assert_eq!(
+        values("((1),(2))", "( (1) /* a row */\n, (2) )"),
+        [Ok(true); 2]
+    );
 }
 
 #[test]
@@ -74,7 +78,7 @@ fn other_values_have_another_meaning() {
         ("1 <M*S>", "1 <M/S>"),
         ("{1, 2}", "{2, 1}"),
         ("{1}", "(1)"),
-        ("((1, 2))", "((1)(2))"),
+        ("((1, 2))", "((1), (2))"),
         ("'A'", "\"A\""),
         ("\"io\"", "\"IO\""),
         ("\"Jupi-\nter\"", "\"Jupi- \nter\""),

@@ -42,14 +42,12 @@ ofRule rule.start = priors.Start
 ofRule rule.heading = priors.Heading
 ofRule rule.member = priors.Member
 ofRule rule.factor = priors.Factor
-ofRule rule.bracket = priors.Bracket
 
 again : (q : Prior) → ofRule (priorOf q) ≡ q
 again priors.Start = refl
 again priors.Heading = refl
 again priors.Member = refl
 again priors.Factor = refl
-again priors.Bracket = refl
 
 pub leaves-once : {row : Row} {u v : Prior} → PriorAfter row (priorOf u) → PriorAfter row (priorOf v) → u ≡ v
 leaves-once {u = u} {v = v} x y = sym (again u) ∙ ap ofRule (x .is [] ∙ sym (y .is [])) ∙ again v

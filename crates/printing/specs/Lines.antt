@@ -16,7 +16,6 @@ priorOf priors.Start = rule.start
 priorOf priors.Heading = rule.heading
 priorOf priors.Member = rule.member
 priorOf priors.Factor = rule.factor
-priorOf priors.Bracket = rule.bracket
 
 -- no row writes more bytes: callers may add the count to another and stay within the machine's numbers
 abbrev pub rowBound : ℕ

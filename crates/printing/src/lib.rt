@@ -29,13 +29,12 @@ ghost use Rattle.classes.specs.Places.{part};
 ghost use Rattle.rows.specs.Rows.{deepest};
 ghost use Rattle.printing.specs.Lines.{priorOf, RowPut, PriorAfter};
 
-// What the row before leaves: nothing yet, in the label or in its bracket; a line's heading; a scalar; a unit; a closing bracket.
+// What the row before leaves: nothing yet, in the label or in its bracket; a line's heading; a scalar, or a bracket that closes; a unit.
 pub enum Prior {
     Start,
     Heading,
     Member,
     Factor,
-    Bracket,
 }
 
 // What a row is to the row after it.
@@ -54,9 +53,9 @@ pub fn prior_of(row: Row) -> Prior
         Row::Symbol(_, _) => Prior::Member,
         Row::Unit(_, _, _, _, _) => Prior::Factor,
         Row::Sequence => Prior::Start,
-        Row::SequenceEnd => Prior::Bracket,
+        Row::SequenceEnd => Prior::Member,
         Row::Set => Prior::Start,
-        Row::SetEnd => Prior::Bracket,
+        Row::SetEnd => Prior::Member,
         Row::Last(_) => Prior::Heading,
     }
 }

@@ -6,7 +6,7 @@ use output::put_bytes;
 ghost use mathlib.Core.List.{_++_};
 ghost use Prim.Native.Nat.{_≤_};
 ghost use Rattle.rules.specs.Bytes.{ascii};
-ghost use Rattle.rules.specs.Written.{unitsEnd, betweenRows, lead, lineBreak, indent, newLine};
+ghost use Rattle.rules.specs.Written.{unitsEnd, lead, lineBreak, indent, newLine};
 ghost use Rattle.rows.specs.Rows.{deepest};
 ghost use Rattle.output.specs.Puts.{Puts};
 ghost use Rattle.printing.specs.Lines.{priorOf};
@@ -20,17 +20,10 @@ pub fn put_units_end(out: &mut [u8], q: Prior) -> usize
         Prior::Heading => 0,
         Prior::Member => 0,
         Prior::Factor => put_byte(out, b'>'),
-        Prior::Bracket => 0,
     }
 }
 
-// Between the rows of a sequence of sequences.
-fn put_between_rows(out: &mut [u8]) -> usize
-    ensures { λ r. ⌜ Puts betweenRows (now (out .entry)) (now (out .exit)) r × (r ≤ 2) ⌝ }
-{
-    put_bytes(out, b"")
-}
-
+// What stands between `NAME =` and its value, between members, and between the rows of a sequence of sequences.
 fn put_gap(out: &mut [u8], q: Prior) -> usize
     ensures { λ r. ⌜ Puts (lead (priorOf q)) (now (out .entry)) (now (out .exit)) r × (r ≤ 2) ⌝ }
 {
@@ -39,7 +32,6 @@ fn put_gap(out: &mut [u8], q: Prior) -> usize
         Prior::Heading => put_bytes(out, b" "),
         Prior::Member => put_bytes(out, b", "),
         Prior::Factor => put_bytes(out, b", "),
-        Prior::Bracket => put_between_rows(out),
     }
 }
 
@@ -61,7 +53,6 @@ fn put_line_break(out: &mut [u8], q: Prior) -> usize
         Prior::Heading => put_bytes(out, b"\r\n"),
         Prior::Member => put_bytes(out, b"\r\n"),
         Prior::Factor => put_bytes(out, b"\r\n"),
-        Prior::Bracket => put_bytes(out, b"\r\n"),
     }
 }
 

@@ -1,4 +1,4 @@
--- The checked examples marked P, as one list; and examples of the calls, as another, worked out by hand from the paper.
+-- The checked examples marked P, as one list; and examples of the calls, as another, worked out by hand from the papers.
 use Prim.Native.Nat.{ℕ, _≤_}
 use Prim.Native.String.{String}
 use mathlib.Core.Bool.{true, false}
@@ -108,7 +108,7 @@ abbrev pub group-table : List ℕ
 group-table =
     5 ∷ 0 ∷ 6 ∷ 0 ∷ 7 ∷ 1 ∷ 0 ∷ 8 ∷ 0 ∷ 9 ∷ (integer-of 1 ++ (6 ∷ 1 ∷ 0 ∷ 22 ∷ 0 ∷ 23 ∷ (integer-of 2 ++ end-at 29)))
 
--- what no theorem pins, worked out by hand from the paper
+-- what no theorem pins, and document 02 §2, worked out by hand from the papers
 abbrev pub calls : List Call
 calls =
     -- a comment runs to its `*/`, and the rest of that line is ignored: the first END is no element
@@ -139,6 +139,15 @@ calls =
     -- the name of the block, and an empty stretch at the label's start of a row that has none
     ∷ views group-label group-table 0 (to 6 7)
     ∷ views group-label group-table 19 (to 0 0)
+    -- document 02 §2: rows are separated by one comma; side by side is 6 at the second row; what is no row behind a comma is 6 at its start
+    ∷ reads (ascii "A=((1,2),(3)) END") (before 42) (says 0 17 41)
+    (attribute-A ++ (20 ∷ 20 ∷ (integer-of 1 ++ (integer-of 2 ++ (21 ∷ 20 ∷ (integer-of 3 ++ (21 ∷ 21 ∷ (end-at 17 ++ before 1))))))))
+    ∷ reads (ascii "A=((1,2)(3)) END") (before 2) (says 6 8 0) (before 2)
+    ∷ reads (ascii "A=((1,2),) END") (before 2) (says 6 9 0) (before 2)
+    ∷ reads (ascii "A=((1,2),,(3)) END") (before 2) (says 6 9 0) (before 2)
+    ∷ reads (ascii "A=((1),2) END") (before 2) (says 6 7 0) (before 2)
+    -- the writer puts `, ` between rows
+    ∷ relabels (ascii "A=((1,2),(3,4)) END") (ascii "A = ((1, 2), (3, 4))\r\nEND\r\n")
     -- the paper's example of relabel
     ∷ relabels (ascii "object = cam /* rig 4 */ ignored\n start = 1990-158T15:24:12\n hold = 1.50 <sec**1>\nend_object\nEND\n")
     (ascii "OBJECT = CAM\r\n  START = 1990-06-07T15:24:12Z\r\n  HOLD = 15.E-1 <SEC>\r\nEND_OBJECT = CAM\r\nEND\r\n")

@@ -1,4 +1,5 @@
--- Statements and values, as 12.4 and 12.5 of the source print them: which elements make a label, and the rows that they give.
+-- Statements and values, as 12.4 and 12.5 of the source print them, but for the comma between rows, which document 02 §2 puts in: which
+-- elements make a label, and the rows that they give.
 -- Each type below is a rule of the source's grammar, which stands above it, or a help to these, which says so.
 use Prim.Native.Nat.{ℕ, suc, _≤_, _<_}
 use mathlib.Core.Path.{_≡_}
@@ -66,10 +67,10 @@ module _ (m : Mode) (s : Strictness) where
     symbol-value : {p : Span} → Scalar (symbol on p ∷ []) (a-symbol p ∷ [])
     identifier-value : {n : Name} {p : Span} → Scalar (name n on p ∷ []) (a-symbol p ∷ [])
 
-  -- what stands between two members: a comma, which version 1 may leave out
+  -- what stands between two members, or between two rows: one comma, which version 1 may leave out
   pub data Apart : List Placed → Type 0 where
     comma-apart : {p : Span} → Apart (the comma on p ∷ [])
-    beside : m .members-beside ≡ true → Apart []
+    beside : m .version-1 ≡ true → Apart []
 
   -- [, scalar_value]*
   pub data Scalars : List Placed → List Row → Type 0 where
@@ -83,18 +84,14 @@ module _ (m : Mode) (s : Strictness) where
         Scalar xs rs → Scalars ys qs →
         Sequence1 (the lpar on p ∷ (xs ++ (ys ++ (the rpar on q ∷ [])))) (sequence ∷ (rs ++ (qs ++ (sequence-end ∷ []))))
 
-  -- what stands between two rows: nothing, or one comma, as the mode has it
-  pub data Between : List Placed → Type 0 where
-    side-by-side : m .rows-beside ≡ true → Between []
-    by-comma : {p : Span} → m .rows-comma ≡ true → Between (the comma on p ∷ [])
-
-  -- [sequence_1D]*
+  -- [, sequence_1D]*. Document 02 §2: The printed rule in 12.5.5 left the comma out. Rows are now separated by one comma, and side by side
+  -- is refused with 6 at the second row.
   pub data Rows : List Placed → List Row → Type 0 where
     no-row : Rows [] []
     and-row : {bs xs ys : List Placed} {rs qs : List Row} →
-        Between bs → Sequence1 xs rs → Rows ys qs → Rows (bs ++ (xs ++ ys)) (rs ++ qs)
+        Apart bs → Sequence1 xs rs → Rows ys qs → Rows (bs ++ (xs ++ ys)) (rs ++ qs)
 
-  -- sequence_value ::= sequence_1D | sequence_2D, with sequence_2D ::= ([sequence_1D]+)
+  -- sequence_value ::= sequence_1D | sequence_2D, with sequence_2D ::= (sequence_1D [, sequence_1D]*), printed as ([sequence_1D] +)
   pub data Sequence : List Placed → List Row → Type 0 where
     one-dimension : {xs : List Placed} {rs : List Row} → Sequence1 xs rs → Sequence xs rs
     sequence-2D : {p : Span} (q : Span) {xs ys : List Placed} {rs qs : List Row} →

@@ -93,10 +93,10 @@ exponentBytes w = cond (isOne w) [] (ascii "**" ++ decimal w)
 -- ---- between one row and the next
 
 -- The bytes between two rows are set by both: a comma, a space, a line's end, the `>` of units, or nothing. Each row writes what stands
--- before it, so what it needs to know of the rows before is one of these five: nothing yet, in the label or in its bracket; a line's
--- heading; a scalar; a unit; a closing bracket.
+-- before it, so what it needs to know of the rows before is one of these four: nothing yet, in the label or in its bracket; a line's
+-- heading; a scalar, or a bracket that closes; a unit.
 pub data Prior : Type 0 where
-  start heading member factor bracket : Prior
+  start heading member factor : Prior
 
 -- what each row is to the next
 abbrev pub prior : Sense → Prior
@@ -111,9 +111,9 @@ prior (a-text w) = member
 prior (a-symbol w) = member
 prior (a-unit op n w) = factor
 prior sequence = start
-prior sequence-end = bracket
+prior sequence-end = member
 prior set = start
-prior set-end = bracket
+prior set-end = member
 prior (last n) = heading
 
 -- `<KM*SEC**-2>`: the last unit is closed by whatever row comes next
@@ -122,20 +122,14 @@ unitsEnd start = []
 unitsEnd heading = []
 unitsEnd member = []
 unitsEnd factor = ascii ">"
-unitsEnd bracket = []
 
--- `((a, b)(c))`: rows side by side
-abbrev pub betweenRows : List ℕ
-betweenRows = []
-
--- `NAME = value`, `(a, b)`, `{a, b}`: before a value, nothing where a bracket has just opened, a space behind `NAME =`, comma and space
--- between members
+-- `NAME = value`, `(a, b)`, `((a, b), (c))`, `{a, b}`: before a value, nothing where a bracket has just opened, a space behind `NAME =`,
+-- comma and space between members. Document 02 §2: The writer puts `, ` between rows, those of a sequence of sequences.
 abbrev pub lead : Prior → List ℕ
 lead start = []
 lead heading = ascii " "
 lead member = ascii ", "
 lead factor = ascii ", "
-lead bracket = betweenRows
 
 -- Lines end CR LF: before a line, its predecessor's end, and nothing before the first; behind a heading where no value follows, as
 -- `OBJECT = NAME`.
@@ -144,7 +138,6 @@ lineBreak start = []
 lineBreak heading = 13 ∷ 10 ∷ []
 lineBreak member = 13 ∷ 10 ∷ []
 lineBreak factor = 13 ∷ 10 ∷ []
-lineBreak bracket = 13 ∷ 10 ∷ []
 
 -- Two spaces per depth;
 unfoldable pub indent : ℕ → List ℕ
@@ -214,7 +207,7 @@ writes q o (a-text w) = unitsEnd q ++ (lead q ++ (byte "\"" ∷ (w ++ ascii "\""
 -- symbols and units
 writes q o (a-symbol w) = unitsEnd q ++ (lead q ++ symbolBytes w)
 writes q o (a-unit op n w) = opSign op ++ (n ++ exponentBytes w)
--- `(a, b)`, `((a, b)(c))`, `{a, b}`, `{}`
+-- `(a, b)`, `((a, b), (c))`, `{a, b}`, `{}`
 writes q o sequence = unitsEnd q ++ (lead q ++ ascii "(")
 writes q o sequence-end = unitsEnd q ++ ascii ")"
 writes q o set = unitsEnd q ++ (lead q ++ ascii "{")

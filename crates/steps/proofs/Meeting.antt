@@ -25,7 +25,7 @@ use Rattle.steps.proofs.Ways.{passes}
 
 -- the numbers of what is awaited with a sign that cannot be left out
 abbrev others : List ℕ
-others = 0 ∷ 1 ∷ 2 ∷ 3 ∷ 4 ∷ 6 ∷ 7 ∷ 8 ∷ 9 ∷ 10 ∷ 12 ∷ 13 ∷ 14 ∷ 15 ∷ 16 ∷ 17 ∷ 18 ∷ 19 ∷ 20 ∷ []
+others = 0 ∷ 1 ∷ 2 ∷ 3 ∷ 4 ∷ 6 ∷ 7 ∷ 8 ∷ 9 ∷ 10 ∷ 12 ∷ 13 ∷ 14 ∷ 15 ∷ 16 ∷ 17 ∷ 18 ∷ 19 ∷ 20 ∷ 21 ∷ []
 
 pub apart : {a : Awaited} → a ≡ await.Closed → a ≡ await.AfterNumber → ⊥
 apart h k = let z : _≡_ {A = ℕ} 0 1 = cc in omega arith

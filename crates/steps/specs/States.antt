@@ -44,6 +44,7 @@ stateIn label await.AfterUnit t = machine.at-power (placeIn (t .nest)) (opOf (t 
 stateIn label await.Exponent t = machine.at-exponent (placeIn (t .nest)) (opOf (t .op)) (asSpan (t .from) (t .upto))
 stateIn label await.AfterExponent t = machine.at-factor (placeIn (t .nest))
 stateIn label await.AfterRow t = machine.at-row
+stateIn label await.NextRow t = machine.at-next-row
 stateIn label await.Ended t = machine.at-end
 
 abbrev pub stateOf : List ℕ → State → machine.State
@@ -116,7 +117,7 @@ ledTo t (machine.at-member machine.in-sequence) = awaiting t await.InSequence
 ledTo t (machine.at-member machine.in-row) = awaiting t await.InRow
 ledTo t (machine.at-member machine.in-set) = awaiting t await.InSet
 ledTo t machine.at-row = awaiting t await.AfterRow
-ledTo t machine.at-next-row = t
+ledTo t machine.at-next-row = awaiting t await.NextRow
 ledTo t (machine.at-unit c o) = stateWith t await.UnitName (t .nest) (t .kind) (opBack o)
 ledTo t (machine.at-power c o p) = named (awaiting t await.AfterUnit) (p .from) (p .upto)
 ledTo t (machine.at-exponent c o p) = awaiting t await.Exponent
@@ -161,6 +162,7 @@ roomIn await.AfterUnit full = Unit {0}
 roomIn await.Exponent full = Unit {0}
 roomIn await.AfterExponent full = Unit {0}
 roomIn await.AfterRow full = Unit {0}
+roomIn await.NextRow full = Unit {0}
 roomIn await.Ended full = Unit {0}
 
 abbrev pub Room : State → Type 0

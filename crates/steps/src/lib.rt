@@ -36,6 +36,7 @@ use values::first_of_set;
 use values::in_row;
 use values::in_sequence;
 use values::in_set;
+use values::next_row;
 use values::scalar;
 use values::value;
 ghost use Rattle.steps.specs.States.{stateOf};
@@ -63,6 +64,7 @@ pub enum Awaited {
     Exponent,
     AfterExponent,
     AfterRow,
+    NextRow,
     Ended,
 }
 
@@ -122,6 +124,7 @@ pub fn step(label: &[u8], t: State, e: Element) -> Stepped
         Awaited::Exponent => exponent(label, t, e),
         Awaited::AfterExponent => after_exponent(label, t, e),
         Awaited::AfterRow => after_row(label, t, e),
+        Awaited::NextRow => next_row(label, t, e),
         Awaited::Ended => ended(label, t, e),
     }
 }

@@ -13,7 +13,7 @@ use crate::signs::sign_of;
 use elements::Element;
 use rows::Nest;
 use rows::Row;
-ghost use Rattle.rules.proofs.Machine.Statements.{at-scalar, at-row, at-member, no-else, any-value, a-row, a-set-end, in-sequence, in-row, in-set};
+ghost use Rattle.rules.proofs.Machine.Statements.{at-scalar, at-row, at-next-row, at-member, no-else, any-value, a-row, a-set-end, in-sequence, in-row, in-set};
 ghost use Rattle.rows.specs.Rows.{placeIn};
 ghost use Rattle.steps.specs.Steps.{Does};
 
@@ -77,12 +77,24 @@ pub fn first_of_set(label: &[u8], t: State, e: Element) -> Stepped
 pub fn after_row(label: &[u8], t: State, e: Element) -> Stepped
     ensures { λ r. ⌜ Does (now (label .entry)) t at-row e r ⌝ }
 {
+    // No row begins here: a comma must stand before it.
     let c = sign_of(e);
-    if c == b'(' {
-        return giving(awaiting_in(t, Awaited::Member, Nest::Row), Row::Sequence);
+    if c == b',' {
+        return passing(awaiting(t, Awaited::NextRow));
     }
     if c == b')' {
         return giving(awaiting(t, Awaited::Statement), Row::SequenceEnd);
+    }
+    refuse(t, MISPLACED)
+}
+
+pub fn next_row(label: &[u8], t: State, e: Element) -> Stepped
+    ensures { λ r. ⌜ Does (now (label .entry)) t at-next-row e r ⌝ }
+{
+    // The rows do not end here: a comma stands between two of them.
+    let c = sign_of(e);
+    if c == b'(' {
+        return giving(awaiting_in(t, Awaited::Member, Nest::Row), Row::Sequence);
     }
     refuse(t, MISPLACED)
 }

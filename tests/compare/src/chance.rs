@@ -1,14 +1,56 @@
 //! Random cases, and runs of many of them.
 
-use crate::{Call, Case};
+use crate::{Answer, Call, Case};
 use odl_model::random::{self, Random, TableCase};
+use odl_model::rows;
 use std::collections::BTreeMap;
 use std::sync::atomic::{AtomicBool, AtomicU64, Ordering};
 use std::time::Instant;
 
-/// How often each code was answered by each call. A name that is there counts
-/// as 0, none as 15.
-pub type Tally = BTreeMap<(Call, u8), u64>;
+/// What a run came upon, and how often.
+#[derive(Default)]
+pub struct Tally {
+    /// Each code of each call. A name that is there counts as 0, none as 15.
+    pub codes: BTreeMap<(Call, u8), u64>,
+    /// Each case of the rule for rows, of labels that were read and of tables
+    /// that were written.
+    pub rows: BTreeMap<&'static str, u64>,
+}
+
+/// The case of a table that is written with a comma between rows.
+pub const ROWS_WRITTEN: &str = "rows written";
+
+impl Tally {
+    fn count(&mut self, case: &Case, answer: Answer) {
+        let code = match (case.call, answer) {
+            (Call::Name, (_, 0, 0)) => 15,
+            (_, (code, ..)) => code,
+        };
+        *self.codes.entry((case.call, code)).or_default() += 1;
+        for name in row_cases(case, code) {
+            *self.rows.entry(name).or_default() += 1;
+        }
+    }
+
+    fn add(&mut self, other: Tally) {
+        for (key, count) in other.codes {
+            *self.codes.entry(key).or_default() += count;
+        }
+        for (key, count) in other.rows {
+            *self.rows.entry(key).or_default() += count;
+        }
+    }
+}
+
+fn row_cases(case: &Case, code: u8) -> Vec<&'static str> {
+    match case.call {
+        Call::Read => rows::cases(&case.label),
+        Call::Write if code == 0 && rows::follow_each_other(&case.label, &case.table) => {
+            vec![ROWS_WRITTEN]
+        }
+        _ => Vec::new(),
+    }
+}
 
 /// The case of this number in the run of this seed.
 pub fn case(seed: u64, number: u64) -> Case {
@@ -174,7 +216,7 @@ pub fn run(seed: u64, until: Until) -> Result<Tally, String> {
     let next = AtomicU64::new(0);
     let failed = AtomicBool::new(false);
     let work = || {
-        let mut tally = Tally::new();
+        let mut tally = Tally::default();
         loop {
             let number = next.fetch_add(1, Ordering::Relaxed);
             if until.reached(number) || failed.load(Ordering::Relaxed) {
@@ -185,11 +227,7 @@ pub fn run(seed: u64, until: Until) -> Result<Tally, String> {
                 failed.store(true, Ordering::Relaxed);
                 format!("seed {seed}, case {number}: {difference}")
             })?;
-            let code = match (case.call, answer) {
-                (Call::Name, (_, 0, 0)) => 15,
-                (_, (code, ..)) => code,
-            };
-            *tally.entry((case.call, code)).or_default() += 1;
+            tally.count(&case, answer);
         }
     };
     let workers = std::thread::available_parallelism().map_or(1, usize::from);
@@ -200,9 +238,9 @@ pub fn run(seed: u64, until: Until) -> Result<Tally, String> {
             .map(|worker| worker.join().unwrap_or_else(|_| Err(stopped(seed))))
             .collect::<Result<Vec<Tally>, String>>()
     })?;
-    let mut whole = Tally::new();
-    for (key, count) in tallies.into_iter().flatten() {
-        *whole.entry(key).or_default() += count;
+    let mut whole = Tally::default();
+    for tally in tallies {
+        whole.add(tally);
     }
     Ok(whole)
 }

@@ -37,10 +37,13 @@ fn run(minutes: u64, seed: u64) -> Result<(), String> {
     println!("seed {seed}, {minutes} minutes");
     let end = Instant::now() + Duration::from_secs(60 * minutes);
     let tally = chance::run(seed, Until::Time(end))?;
-    for ((call, code), count) in &tally {
+    for ((call, code), count) in &tally.codes {
         println!("{call:?} code {code}: {count}");
     }
-    println!("{} passed, 0 failed", tally.values().sum::<u64>());
+    for (case, count) in &tally.rows {
+        println!("{case}: {count}");
+    }
+    println!("{} passed, 0 failed", tally.codes.values().sum::<u64>());
     Ok(())
 }
 

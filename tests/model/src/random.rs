@@ -2,8 +2,9 @@
 //!
 //! Good labels use every kind of value and every kind of gap. Damaged ones
 //! are good ones with a few bytes changed, labels at a limit or just past it,
-//! or elements strung together without regard for grammar. Tables are those
-//! of good labels, whole or damaged, each with a row and a name to ask for.
+//! labels with something much like a sequence of rows, or elements strung
+//! together without regard for grammar. Tables are those of good labels, whole
+//! or damaged, each with a row and a name to ask for.
 
 use crate::{read, LONGEST_LABEL};
 
@@ -45,10 +46,11 @@ impl Random {
 
 /// A label of any sort.
 pub fn label(random: &mut Random) -> Vec<u8> {
-    match random.below(10) {
-        0..=3 => good_label(random),
-        4..=7 => damaged_label(random),
-        8 => limit_label(random),
+    match random.below(21) {
+        0..=7 => good_label(random),
+        8..=15 => damaged_label(random),
+        16 | 17 => limit_label(random),
+        18 => rows_label(random),
         _ => strung_elements(random),
     }
 }
@@ -74,7 +76,12 @@ pub fn long_label(random: &mut Random) -> Vec<u8> {
 /// A good label filled up with spaces to nearly, exactly or just over the
 /// longest length allowed.
 pub fn filled_label(random: &mut Random) -> Vec<u8> {
-    let size = random.below(LONGEST_LABEL - 8_000);
+    // Of the longest ones, some are written with more bytes than may be.
+    let longest = LONGEST_LABEL - 8_000;
+    let size = match random.one_in(2) {
+        true => longest,
+        false => random.below(longest),
+    };
     let mut label = Maker::new(random).label(size);
     let wanted = LONGEST_LABEL - 2 + random.below(5);
     // Spaces may stand before the first element as well as after END.
@@ -246,6 +253,27 @@ fn limit_word(random: &mut Random) -> Vec<u8> {
     random.pick(&words).as_bytes().to_vec()
 }
 
+/// A label with a sequence of rows, or with what is only much like one: a
+/// comma too few or too many, or no row where one must stand.
+pub fn rows_label(random: &mut Random) -> Vec<u8> {
+    // `r` is a row and `s` a scalar; the marks are marks.
+    #[rustfmt::skip]
+    const SHAPES: &[&str] = &[
+        "(r,r)", "(r,r,r)", "(rr)", "(r,rr)", "(,r)", "(r,,r)", "(r,)", "(r,r,)", "(r,s)",
+        "(r,{})", "(r,{s})", "(r,())", "(r,(r))", "(r,(s,r))", "((r))", "((s,r))", "(rs)",
+        "(r{})", "(s,r)", "(sr)", "(r,", "(r,r,", "(r", "(r,r",
+    ];
+    let shape = random.pick(SHAPES);
+    let size = random.below(60);
+    let mut maker = Maker::new(random);
+    maker.statements(size);
+    maker.assignment(|maker| maker.shaped(shape));
+    match shape.ends_with(')') || maker.random.one_in(2) {
+        true => maker.ended(),
+        false => maker.broken_off(),
+    }
+}
+
 /// Elements, gaps and faulty bytes in a row, without regard for grammar.
 pub fn strung_elements(random: &mut Random) -> Vec<u8> {
     let mut label = Vec::new();
@@ -266,7 +294,7 @@ fn random_element(random: &mut Random) -> Vec<u8> {
         b"END_GROUP=B", b"END_OBJECT=", b"object", b"Begin_Object", b"BEGIN_GROUP",
         b"END", b"end", b"\"t\"", b"\"", b"'", b"''", b"'s'", b"/* c */\n", b"/*",
         b"/*/", b"/**/ rest \xe9", b"***", b"//*x*/\n", b"<KM>", b"<KM**2>", b"(1)",
-        b"{}", b"\"\xe9", b"'\t'", b"/*\x80*/", b"&",
+        b"),(", b")(", b"{}", b"\"\xe9", b"'\t'", b"/*\x80*/", b"&",
     ];
     match random.below(5) {
         0 => limit_word(random),
@@ -304,15 +332,30 @@ impl<'r> Maker<'r> {
 
     /// A whole label with about `size` bytes of statements.
     fn label(mut self, size: usize) -> Vec<u8> {
+        self.statements(size);
+        self.ended()
+    }
+
+    fn statements(&mut self, size: usize) {
         while self.out.len() < size {
             self.statement();
         }
+    }
+
+    /// The label so far with all blocks closed and END.
+    fn ended(mut self) -> Vec<u8> {
         while !self.open.is_empty() {
             self.closing();
         }
         let end = self.random.pick(&["END", "END", "end", "eNd"]);
         self.put(end);
         self.after_end();
+        self.out
+    }
+
+    /// The label so far, and at most a gap.
+    fn broken_off(mut self) -> Vec<u8> {
+        self.gap(b"");
         self.out
     }
 
@@ -367,11 +410,12 @@ impl<'r> Maker<'r> {
         #[rustfmt::skip]
         const BODIES: &[&[u8]] = &[
             b"", b" rig 4 ", b"*", b"***", b"/*", b"END", b" ' \" ", b"\0\x7f\t", b"* /",
-            b"&;",
+            b"&;", b",", b"),(",
         ];
         #[rustfmt::skip]
         const RESTS: &[&[u8]] = &[
             b"", b"", b" ignored", b" END", b"*/", b"/* open", b"\xe9\xff\0", b" \" '",
+            b" ,", b")",
         ];
         self.out.extend_from_slice(b"/*");
         self.out.extend_from_slice(self.random.pick(BODIES));
@@ -386,9 +430,9 @@ impl<'r> Maker<'r> {
             1 if !self.open.is_empty() => self.closing(),
             2 => {
                 self.put("^");
-                self.assignment();
+                self.assignment(Self::value);
             }
-            _ => self.assignment(),
+            _ => self.assignment(Self::value),
         }
     }
 
@@ -422,11 +466,11 @@ impl<'r> Maker<'r> {
         }
     }
 
-    fn assignment(&mut self) {
+    fn assignment(&mut self, value: impl Fn(&mut Self)) {
         let name = self.name();
         self.put(&name);
         self.put("=");
-        self.value();
+        value(self);
     }
 
     fn name(&mut self) -> String {
@@ -444,28 +488,38 @@ impl<'r> Maker<'r> {
 
     fn value(&mut self) {
         match self.random.below(12) {
-            0 | 1 => self.members("(", 1, ")"),
-            2 => {
-                self.put("(");
-                for _ in 0..1 + self.random.below(3) {
-                    self.members("(", 1, ")");
-                }
-                self.put(")");
-            }
-            3 => self.members("{", 0, "}"),
+            0 | 1 => self.row(),
+            2 => self.members("(", 1, Self::row, ")"),
+            3 => self.members("{", 0, Self::scalar, "}"),
             _ => self.scalar(),
         }
     }
 
-    fn members(&mut self, opening: &str, least: usize, closing: &str) {
+    /// A sequence of scalars, by itself or in a sequence of rows.
+    fn row(&mut self) {
+        self.members("(", 1, Self::scalar, ")");
+    }
+
+    fn members(&mut self, opening: &str, least: usize, member: fn(&mut Self), closing: &str) {
         self.put(opening);
         for at in 0..least + self.random.below(4) {
             if at > 0 {
                 self.put(",");
             }
-            self.scalar();
+            member(self);
         }
         self.put(closing);
+    }
+
+    /// A value, or part of one, in the signs of `rows_label`.
+    fn shaped(&mut self, shape: &str) {
+        for sign in shape.chars() {
+            match sign {
+                'r' => self.row(),
+                's' => self.scalar(),
+                mark => self.put(mark.encode_utf8(&mut [0; 4])),
+            }
+        }
     }
 
     fn scalar(&mut self) {

@@ -197,12 +197,9 @@ impl Reader<'_> {
     fn sequence(&mut self) -> Result<(), Fault> {
         self.push(Row::Sequence);
         self.advance()?;
-        if self.at_mark(b'(') {
-            while self.at_mark(b'(') {
-                self.row_of_sequence()?;
-            }
-        } else {
-            self.members()?;
+        match self.at_mark(b'(') {
+            true => self.members(Self::row_of_sequence)?,
+            false => self.members(Self::scalar)?,
         }
         self.expect_mark(b')')?;
         self.push(Row::SequenceEnd);
@@ -212,7 +209,7 @@ impl Reader<'_> {
     fn row_of_sequence(&mut self) -> Result<(), Fault> {
         self.push(Row::Sequence);
         self.expect_mark(b'(')?;
-        self.members()?;
+        self.members(Self::scalar)?;
         self.expect_mark(b')')?;
         self.push(Row::SequenceEnd);
         Ok(())
@@ -222,18 +219,20 @@ impl Reader<'_> {
         self.push(Row::Set);
         self.advance()?;
         if !self.at_mark(b'}') {
-            self.members()?;
+            self.members(Self::scalar)?;
         }
         self.expect_mark(b'}')?;
         self.push(Row::SetEnd);
         Ok(())
     }
 
-    fn members(&mut self) -> Result<(), Fault> {
-        self.scalar()?;
+    /// One member or more, with one comma between each two. Rows are parted as
+    /// scalars are: 02 §2 puts in the comma that the print of 12.5.5 leaves out.
+    fn members(&mut self, member: impl Fn(&mut Self) -> Result<(), Fault>) -> Result<(), Fault> {
+        member(self)?;
         while self.at_mark(b',') {
             self.advance()?;
-            self.scalar()?;
+            member(self)?;
         }
         Ok(())
     }

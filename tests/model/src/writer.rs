@@ -109,42 +109,25 @@ impl Writer<'_> {
 
     fn value<'t>(&mut self, rows: Rows<'t>) -> Rows<'t> {
         match rows {
-            [(_, Row::Sequence), rest @ ..] => self.sequence(rest),
-            [(_, Row::Set), rest @ ..] => {
-                self.out.put_text("{");
-                let rest = self.members(rest);
-                self.out.put_text("}");
-                rest
-            }
+            [(_, Row::Sequence), rest @ ..] => self.members("(", rest, ")"),
+            [(_, Row::Set), rest @ ..] => self.members("{", rest, "}"),
             _ => self.scalar(rows),
         }
     }
 
-    /// A sequence of scalars or of rows, its opening row already passed.
-    fn sequence<'t>(&mut self, mut rows: Rows<'t>) -> Rows<'t> {
-        self.out.put_text("(");
-        if let [(_, Row::Sequence), ..] = rows {
-            while let [(_, Row::Sequence), rest @ ..] = rows {
-                rows = self.sequence(rest);
-            }
-            rows = &rows[1..];
-        } else {
-            rows = self.members(rows);
-        }
-        self.out.put_text(")");
-        rows
-    }
-
-    /// Members up to the closing row, which is passed too.
-    fn members<'t>(&mut self, mut rows: Rows<'t>) -> Rows<'t> {
+    /// Members in their brackets, up to the closing row, which is passed too.
+    /// Those of a sequence may be sequences.
+    fn members<'t>(&mut self, opening: &str, mut rows: Rows<'t>, closing: &str) -> Rows<'t> {
+        self.out.put_text(opening);
         let mut separator = "";
         loop {
             if let [(_, Row::SequenceEnd | Row::SetEnd), rest @ ..] = rows {
+                self.out.put_text(closing);
                 return rest;
             }
             self.out.put_text(separator);
             separator = ", ";
-            rows = self.scalar(rows);
+            rows = self.value(rows);
         }
     }
 

@@ -6,7 +6,7 @@ use mathlib.Core.Bool.{true, false}
 use mathlib.Core.List.{List, [], _∷_}
 use Rattle.rules.specs.Data.{Span, one, OBJECT, END-OBJECT, END-GROUP, BEGIN-GROUP, equals, comma, less, lpar, rpar, lbrace, rbrace, power, semicolon, name, the, end, integer, range, Placed, _on_, group, attribute, opened, closed, an-integer, sequence, sequence-end, set, set-end, last, outside}
 use Rattle.rules.specs.Grammar.{strict}
-use Rattle.rules.specs.Modes.{base, mended, PVL, ODL-1}
+use Rattle.rules.specs.Modes.{base, PVL, ODL-1}
 use Rattle.rules.proofs.Machine.Statements.{at-end, name-discrete}
 use Rattle.rules.proofs.Grammar.Run.{RunOutcome, ended, refused, reading}
 
@@ -74,22 +74,22 @@ beside-rows = name (65 ∷ []) on at 0 ∷ the equals on at 1 ∷ the lpar on at
 comma-rows : List Placed
 comma-rows = name (65 ∷ []) on at 0 ∷ the equals on at 1 ∷ the lpar on at 2 ∷ the lpar on at 3 ∷ one-at 4 ∷ the rpar on at 5 ∷ the comma on at 6 ∷ the lpar on at 7 ∷ one-at 8 ∷ the rpar on at 9 ∷ the rpar on at 10 ∷ end true on at 11 ∷ []
 
-rows-base : code (reading base strict beside-rows) ≡ 0
-unfolding code beside-rows one-at
-rows-base = refl
-
-rows-base-comma : reading base strict comma-rows ≡ refused 6 (the comma on at 6)
-unfolding comma-rows one-at
-rows-base-comma = refl
-
--- side by side is refused at the second row
-rows-mended : reading mended strict beside-rows ≡ refused 6 (the lpar on at 6)
+-- side by side is refused at the second row, except in version 1
+beside-refused : reading base strict beside-rows ≡ refused 6 (the lpar on at 6)
 unfolding beside-rows one-at
-rows-mended = refl
+beside-refused = refl
 
-rows-mended-comma : code (reading mended strict comma-rows) ≡ 0
+rows-taken : code (reading base strict comma-rows) ≡ 0
 unfolding code comma-rows one-at
-rows-mended-comma = refl
+rows-taken = refl
+
+v1-rows-beside : code (reading ODL-1 strict beside-rows) ≡ 0
+unfolding code beside-rows one-at
+v1-rows-beside = refl
+
+v1-rows-taken : code (reading ODL-1 strict comma-rows) ≡ 0
+unfolding code comma-rows one-at
+v1-rows-taken = refl
 
 -- BEGIN_GROUP = G; A = 1; END_GROUP; END
 pvl-label : List Placed

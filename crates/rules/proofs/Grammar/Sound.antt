@@ -5,9 +5,9 @@ use mathlib.Core.Path.{_≡_, refl, _∙_, subst}
 use mathlib.Core.Bool.{Bool, true, false, Bool-discrete}
 use mathlib.Core.List.{List, [], _∷_, _++_, append-assoc}
 use Rattle.rules.specs.Data.{Span, Whole, one, Name, Fixed, BEGIN-OBJECT, BEGIN-GROUP, equals, comma, star, slash, caret, less, greater, lpar, rpar, lbrace, rbrace, semicolon, name, the, end, integer, based, real, moment, range, text, symbol, Placed, _on_, Kind, closer, Op, first, times, divided, Row, attribute, pointer, opened, closed, an-integer, a-real, a-moment, a-text, a-symbol, a-unit, sequence, sequence-end, set, set-end, last, Opens, outside, inside, depth}
-use Rattle.rules.specs.Grammar.{Strictness, strict, relaxed, Kept, ExpOp, two-stars, one-caret, unwritten, written, Factor, factor, no-factor, by-times, by-divided, Units, no-units, units, Scalar, integer-value, based-value, real-value, date-time-value, text-value, symbol-value, identifier-value, Apart, comma-apart, beside, no-scalar, and-scalar, Sequence1, sequence-1D, Between, side-by-side, by-comma, no-row, and-row, one-dimension, sequence-2D, set-of, empty-set, scalar-value, sequence-value, set-value, range-value, unnamed, named, no-semicolon, a-semicolon, Opening, by-word, by-begin, no-statement, and-statement, Statement, assignment, pointing, block}
+use Rattle.rules.specs.Grammar.{Strictness, strict, relaxed, Kept, ExpOp, two-stars, one-caret, unwritten, written, Factor, factor, no-factor, by-times, by-divided, Units, no-units, units, Scalar, integer-value, based-value, real-value, date-time-value, text-value, symbol-value, identifier-value, Apart, comma-apart, beside, no-scalar, and-scalar, Sequence1, sequence-1D, no-row, and-row, one-dimension, sequence-2D, set-of, empty-set, scalar-value, sequence-value, set-value, range-value, unnamed, named, no-semicolon, a-semicolon, Opening, by-word, by-begin, no-statement, and-statement, Statement, assignment, pointing, block}
 use Rattle.rules.specs.Modes.{Mode}
-use Rattle.rules.proofs.Machine.Statements.{Group, in-sequence, in-row, in-set, Place, alone, within, Else, no-else, any-value, a-row, a-set-end, State, at-statement, at-semicolon, at-equals, at-pointer, at-opener, at-opened, at-closer, at-closed, at-scalar, at-number, at-member, at-row, at-next-row, at-unit, at-power, at-exponent, at-factor, at-end, Next, never, go, Answer, refuses, goes, judge, Entry, _⇒_, Offer, dispatch, limit, after, a-scalar, name-discrete, else, else-range, factors, member, members, rows, openings, statements, after-statement, follows, offers, step}
+use Rattle.rules.proofs.Machine.Statements.{Group, in-sequence, in-row, in-set, Place, alone, within, Else, no-else, any-value, a-row, a-set-end, State, at-statement, at-semicolon, at-equals, at-pointer, at-opener, at-opened, at-closer, at-closed, at-scalar, at-number, at-member, at-row, at-next-row, at-unit, at-power, at-exponent, at-factor, at-end, Next, never, go, Answer, refuses, goes, judge, Entry, Offer, dispatch, limit, after, a-scalar, name-discrete, else, else-range, factors, member, members, rows, openings, statements, after-statement, follows, offers, step}
 use Rattle.rules.proofs.Grammar.Each.{Entries, entries-when, EachAnswer, each-only, each-name, each-whole, each-statement, each-also, each-scalar}
 use Rattle.rules.proofs.Grammar.Rest.{Tail, tail-label, tail-block, ended-by, RowsRest, rows-rest, ending-sequence, ending-row, ending-set, After, after-alone, after-within, FactorsRest, factors-rest, other-sequence, other-set, other-row, other-range, other-end, Rest, r-statement, r-semicolon, r-equals, r-pointer, r-opener, r-opened, r-closer, r-closed, r-scalar, r-other, r-number, r-member, r-row, r-next-row, r-unit, r-power, r-exponent, r-factor, r-end}
 
@@ -39,7 +39,7 @@ module _ (m : Mode) (s : Strictness) where
   tail-cons st (tail-block {k} p ss cl sm t) = simp append-assoc at (tail-block {k = k} p (and-statement st ss) cl sm t)
 
   rows-cons : {o : Opens} {bs xs ys : List Placed} {rs qs : List Row} →
-      Between m s bs → Sequence1 m s xs rs → RowsRest m s o ys qs → RowsRest m s o (bs ++ (xs ++ ys)) (rs ++ qs)
+      Apart m s bs → Sequence1 m s xs rs → RowsRest m s o ys qs → RowsRest m s o (bs ++ (xs ++ ys)) (rs ++ qs)
   rows-cons b sq (rows-rest p rws t) = simp append-assoc at (rows-rest p (and-row b sq rws) t)
 
   scalars-cons : {g : Group} {o : Opens} {bs xs ys : List Placed} {rs qs : List Row} →
@@ -137,7 +137,7 @@ module _ (m : Mode) (s : Strictness) where
   comma-member : {g : Group} {o : Opens} {p : Span} → Good (at-member g) o (the comma on p) (go (at-scalar (within g) no-else) o [])
   comma-member {p} ys qs (r-scalar sc a) = r-member (scalars-cons (comma-apart {p = p}) sc a)
 
-  member-beside : {g : Group} {o : Opens} {ys : List Placed} {qs : List Row} → m .members-beside ≡ true →
+  member-beside : {g : Group} {o : Opens} {ys : List Placed} {qs : List Row} → m .version-1 ≡ true →
       Rest m s (at-scalar (within g) no-else) o ys qs → Rest m s (at-member g) o ys qs
   member-beside h (r-scalar sc a) = r-member (scalars-cons (beside h) sc a)
 
@@ -153,12 +153,12 @@ module _ (m : Mode) (s : Strictness) where
   rows-end : {o : Opens} {p : Span} → Good at-row o (the rpar on p) (go at-semicolon o (sequence-end ∷ []))
   rows-end {p} ys qs (r-semicolon t) = r-row (rows-rest p no-row t)
 
-  row-comma : {o : Opens} {p : Span} → m .rows-comma ≡ true → Good at-row o (the comma on p) (go at-next-row o [])
-  row-comma h ys qs (r-next-row sq rr) = r-row (rows-cons (by-comma h) sq rr)
+  row-comma : {o : Opens} {p : Span} → Good at-row o (the comma on p) (go at-next-row o [])
+  row-comma {p} ys qs (r-next-row sq rr) = r-row (rows-cons (comma-apart {p = p}) sq rr)
 
-  row-beside : {o : Opens} {p : Span} → m .rows-beside ≡ true → Good at-row o (the lpar on p) (go (at-scalar (within in-row) no-else) o (sequence ∷ []))
+  row-beside : {o : Opens} {p : Span} → m .version-1 ≡ true → Good at-row o (the lpar on p) (go (at-scalar (within in-row) no-else) o (sequence ∷ []))
   row-beside {p} h ys qs (r-scalar sc (after-within scs (ending-row {p = q} rr))) =
-      simp append-assoc at (r-row (rows-cons (side-by-side h) (sequence-1D {p = p} q sc scs) rr))
+      simp append-assoc at (r-row (rows-cons (beside h) (sequence-1D {p = p} q sc scs) rr))
 
   name-unit : {c : Place} {op : Op} {o : Opens} {n : Name} {p : Span} → Good (at-unit c op) o (name n on p) (go (at-power c op p) o [])
   name-unit ys qs (r-power e fr) = r-unit (factor e) fr
@@ -272,7 +272,7 @@ module _ (m : Mode) (s : Strictness) where
   sound-member in-row o = (λ p. comma-member, (λ p. row-ends, tt))
   sound-member in-set o = (λ p. comma-member, (λ p. set-ends, tt))
 
-  sound-members : (v : Bool) → m .members-beside ≡ v → (g : Group) (o : Opens) → Sound (at-member g) o (members v g o)
+  sound-members : (v : Bool) → m .version-1 ≡ v → (g : Group) (o : Opens) → Sound (at-member g) o (members v g o)
   sound-members false h g o = each-only (Good (at-member g) o) (λ x. tt) _ (sound-member g o)
   sound-members true h g o =
       each-scalar (Good (at-member g) o) (λ x. tt) (within g) o (λ a b. never) (member g o)
@@ -289,12 +289,10 @@ module _ (m : Mode) (s : Strictness) where
 
   sound-follows : (c : Place) (o : Opens) → Sound (after c) o (follows m c o)
   sound-follows alone o = sound-ended (m .pvl) refl o
-  sound-follows (within g) o = sound-members (m .members-beside) refl g o
+  sound-follows (within g) o = sound-members (m .version-1) refl g o
 
-  sound-rows : (o : Opens) → AllGood at-row o (rows (m .rows-beside) (m .rows-comma) o)
-  sound-rows o =
-      entries-when (Good at-row o) (λ x. tt) (m .rows-beside) lpar _ _ (λ h p. row-beside h)
-      (entries-when (Good at-row o) (λ x. tt) (m .rows-comma) comma _ (rpar ⇒ go at-semicolon o (sequence-end ∷ []) ∷ []) (λ h p. row-comma h) (λ p. rows-end, tt))
+  sound-rows : (o : Opens) → AllGood at-row o (rows (m .version-1) o)
+  sound-rows o = entries-when (Good at-row o) (λ x. tt) (m .version-1) lpar _ _ (λ h p. row-beside h) (λ p. row-comma, (λ p. rows-end, tt))
 
   sound-factors : (c : Place) (o : Opens) → AllGood (at-factor c) o (factors c o [])
   sound-factors c o = (λ p. star-factor, (λ p. slash-factor, (λ p. greater-factor, tt)))

@@ -8,7 +8,7 @@ use mathlib.Core.Bool.{Bool, true, false, Bool-discrete}
 use mathlib.Core.List.{List, [], _∷_, _++_, append-assoc, append-nil}
 use native.Mathlib.Omega.{arith}
 use native.Mathlib.Bridge.{le-by-compare, IsLe}
-use Rattle.rules.specs.Data.{Span, Whole, one, Fixed, OBJECT, GROUP, BEGIN-OBJECT, BEGIN-GROUP, comma, caret, lpar, Elem, name, the, end, integer, based, real, moment, range, text, symbol, Placed, _on_, Kind, object, group, Op, Row, Opens, outside, inside, depth}
+use Rattle.rules.specs.Data.{Span, Whole, one, Fixed, OBJECT, GROUP, BEGIN-OBJECT, BEGIN-GROUP, caret, lpar, Elem, name, the, end, integer, based, real, moment, range, text, symbol, Placed, _on_, Kind, object, group, Op, Row, Opens, outside, inside, depth}
 use Rattle.rules.specs.Grammar.{Strictness, strict, relaxed, unwritten, factor, no-factor, no-units, text-value, no-scalar, sequence-1D, no-row, scalar-value, unnamed, no-semicolon, no-statement, Label, label}
 use Rattle.rules.specs.Modes.{Mode}
 use Rattle.rules.specs.Faults.{Viable, PastLimit, exponent-past, name-differs, too-deep, begun-too-deep, not-set-off, Code, cannot-stand, past-limit, Refused, Early}
@@ -205,7 +205,7 @@ module _ (m : Mode) where
 
   limited-follows : (c : Place) (o : Opens) → EachAnswer Limited unlimited (follows m c o)
   limited-follows alone o = limited-ended (m .pvl) o
-  limited-follows (within g) o = limited-members (m .members-beside) g o
+  limited-follows (within g) o = limited-members (m .version-1) g o
 
   limited-else : (a : Else) (o : Opens) → Entries Limited unlimited (else a o)
   limited-else no-else o = tt
@@ -220,8 +220,8 @@ module _ (m : Mode) where
   limited-range v a-row o lo hi p = tt
   limited-range v a-set-end o lo hi p = tt
 
-  limited-rows : (b a : Bool) (o : Opens) → Entries Limited unlimited (rows b a o)
-  limited-rows b a o = entries-when Limited unlimited b lpar _ _ (λ h p. tt) (entries-when Limited unlimited a comma _ _ (λ h p. tt) (λ p. tt, tt))
+  limited-rows : (v : Bool) (o : Opens) → Entries Limited unlimited (rows v o)
+  limited-rows v o = entries-when Limited unlimited v lpar _ _ (λ h p. tt) (λ p. tt, (λ p. tt, tt))
 
   limited-powers : (v : Bool) (c : Place) (op : Op) (p : Span) (o : Opens) → Entries Limited unlimited (powers v c op p o)
   limited-powers v c op p o = (λ q. tt, entries-when Limited unlimited v caret _ _ (λ h q. tt) (λ q. tt, (λ q. tt, (λ q. tt, tt))))
@@ -238,7 +238,7 @@ module _ (m : Mode) where
   limited-offers (at-scalar c a) o = limited-scalar c o _ _ (limited-range (m .version-1) a o) (limited-else a o)
   limited-offers (at-number c) o = each-also Limited unlimited _ _ _ (λ p. tt) (limited-follows c o)
   limited-offers (at-member g) o = limited-follows (within g) o
-  limited-offers at-row o = each-only Limited unlimited _ (limited-rows (m .rows-beside) (m .rows-comma) o)
+  limited-offers at-row o = each-only Limited unlimited _ (limited-rows (m .version-1) o)
   limited-offers at-next-row o = each-only Limited unlimited _ (λ p. tt, tt)
   limited-offers (at-unit c op) o = each-name Limited unlimited _ (λ n p. tt)
   limited-offers (at-power c op p) o = each-only Limited unlimited _ (limited-powers (m .version-1) c op p o)

@@ -4,14 +4,11 @@ use mathlib.Core.Path.{_≡_}
 use mathlib.Core.Bool.{true}
 use mathlib.Core.List.{List}
 use Rattle.rules.specs.Data.{Whole, Name, Fixed, Placed, Kind, Op, Row}
-use Rattle.rules.specs.Grammar.{Strictness, two-stars, one-caret, Exponent, unwritten, written, Factor, factor, Factors, no-factor, by-times, by-divided, Units, no-units, units, Scalar, integer-value, based-value, real-value, date-time-value, text-value, symbol-value, identifier-value, Apart, comma-apart, beside, Scalars, no-scalar, and-scalar, Sequence1, sequence-1D, Between, side-by-side, by-comma, Rows, no-row, and-row, one-dimension, sequence-2D, set-of, empty-set, Value, scalar-value, sequence-value, set-value, range-value, Closing, unnamed, named, Semicolon, no-semicolon, a-semicolon, Opening, by-word, by-begin, Statements, no-statement, and-statement, Statement, assignment, pointing, block, Label, label}
+use Rattle.rules.specs.Grammar.{Strictness, two-stars, one-caret, Exponent, unwritten, written, Factor, factor, Factors, no-factor, by-times, by-divided, Units, no-units, units, Scalar, integer-value, based-value, real-value, date-time-value, text-value, symbol-value, identifier-value, Apart, comma-apart, beside, Scalars, no-scalar, and-scalar, Sequence1, sequence-1D, Rows, no-row, and-row, one-dimension, sequence-2D, set-of, empty-set, Value, scalar-value, sequence-value, set-value, range-value, Closing, unnamed, named, Semicolon, no-semicolon, a-semicolon, Opening, by-word, by-begin, Statements, no-statement, and-statement, Statement, assignment, pointing, block, Label, label}
 use Rattle.rules.specs.Modes.{Mode}
 
 -- `m′` allows all that `m` allows
 pub record Allows (m m′ : Mode) : Type 0 where
-  pub rows-beside : m .rows-beside ≡ true → m′ .rows-beside ≡ true
-  pub rows-comma : m .rows-comma ≡ true → m′ .rows-comma ≡ true
-  pub members-beside : m .members-beside ≡ true → m′ .members-beside ≡ true
   pub pvl : m .pvl ≡ true → m′ .pvl ≡ true
   pub version-1 : m .version-1 ≡ true → m′ .version-1 ≡ true
 
@@ -44,7 +41,7 @@ module _ (m m′ : Mode) (s : Strictness) (w : Allows m m′) where
 
   apart-too : {bs : List Placed} → Apart m s bs → Apart m′ s bs
   apart-too comma-apart = comma-apart
-  apart-too (beside h) = beside (w .members-beside h)
+  apart-too (beside h) = beside (w .version-1 h)
 
   scalars-too : {xs : List Placed} {rs : List Row} → Scalars m s xs rs → Scalars m′ s xs rs
   scalars-too no-scalar = no-scalar
@@ -53,13 +50,9 @@ module _ (m m′ : Mode) (s : Strictness) (w : Allows m m′) where
   sequence1-too : {xs : List Placed} {rs : List Row} → Sequence1 m s xs rs → Sequence1 m′ s xs rs
   sequence1-too (sequence-1D q sc scs) = sequence-1D q (scalar-too sc) (scalars-too scs)
 
-  between-too : {bs : List Placed} → Between m s bs → Between m′ s bs
-  between-too (side-by-side h) = side-by-side (w .rows-beside h)
-  between-too (by-comma h) = by-comma (w .rows-comma h)
-
   rows-too : {xs : List Placed} {rs : List Row} → Rows m s xs rs → Rows m′ s xs rs
   rows-too no-row = no-row
-  rows-too (and-row b sq rws) = and-row (between-too b) (sequence1-too sq) (rows-too rws)
+  rows-too (and-row b sq rws) = and-row (apart-too b) (sequence1-too sq) (rows-too rws)
 
   value-too : {xs : List Placed} {rs : List Row} → Value m s xs rs → Value m′ s xs rs
   value-too (scalar-value sc) = scalar-value (scalar-too sc)

@@ -158,10 +158,14 @@ name-discrete [] (b ∷ n′) = no nil≢cons
 name-discrete (a ∷ n) [] = no cons≢nil
 name-discrete (a ∷ n) (b ∷ n′) = same-name (ℕ-discrete a b) (name-discrete n n′)
 
+-- a row begins
+abbrev pub row-begins : Opens → Entry
+row-begins o = lpar ⇒ go (at-scalar (within in-row) no-else) o (sequence ∷ [])
+
 abbrev pub else : Else → Opens → List Entry
 else no-else o = []
 else any-value o = lpar ⇒ go (at-scalar (within in-sequence) a-row) o (sequence ∷ []) ∷ lbrace ⇒ go (at-scalar (within in-set) a-set-end) o (set ∷ []) ∷ []
-else a-row o = lpar ⇒ go (at-scalar (within in-row) no-else) o (sequence ∷ []) ∷ []
+else a-row o = row-begins o ∷ []
 else a-set-end o = rbrace ⇒ go at-semicolon o (set-end ∷ []) ∷ []
 
 -- a range, where any value may stand
@@ -193,10 +197,9 @@ abbrev pub members : Bool → Group → Opens → Offer
 members true g o = a-scalar (within g) o (λ a b. never) (member g o)
 members false g o = only (member g o)
 
--- after a row: another beside it, or after a comma, or the end
-abbrev pub rows : Bool → Bool → Opens → List Entry
-rows beside apart o =
-    when beside (lpar ⇒ go (at-scalar (within in-row) no-else) o (sequence ∷ [])) (when apart (comma ⇒ go at-next-row o []) (rpar ⇒ go at-semicolon o (sequence-end ∷ []) ∷ []))
+-- after a row: a comma, or the end; where the comma may be left out, the next row too
+abbrev pub rows : Bool → Opens → List Entry
+rows beside o = when beside (row-begins o) (comma ⇒ go at-next-row o [] ∷ rpar ⇒ go at-semicolon o (sequence-end ∷ []) ∷ [])
 
 abbrev pub opens : Fixed → Kind → Opens → Entry
 opens f k o = f ⇒ limit (decLt (depth o) 80) 8 (at-opener k) o []
@@ -218,7 +221,7 @@ after-statement false o = statements false o
 module _ (m : Mode) where
   abbrev pub follows : Place → Opens → Offer
   follows alone o = after-statement (m .pvl) o
-  follows (within g) o = members (m .members-beside) g o
+  follows (within g) o = members (m .version-1) g o
 
   abbrev pub offers : State → Opens → Offer
   offers at-statement o = statements (m .pvl) o
@@ -231,9 +234,9 @@ module _ (m : Mode) where
   offers (at-closed n) o = a-name (λ n′ p. limit (name-discrete n′ n) 7 at-semicolon o [])
   offers (at-scalar c a) o = a-scalar c o (else-range (m .version-1) a o) (else a o)
   offers (at-number c) o = also (less ⇒ go (at-unit c first) o []) (follows c o)
-  offers (at-member g) o = members (m .members-beside) g o
-  offers at-row o = only (rows (m .rows-beside) (m .rows-comma) o)
-  offers at-next-row o = only (lpar ⇒ go (at-scalar (within in-row) no-else) o (sequence ∷ []) ∷ [])
+  offers (at-member g) o = members (m .version-1) g o
+  offers at-row o = only (rows (m .version-1) o)
+  offers at-next-row o = only (row-begins o ∷ [])
   offers (at-unit c op) o = a-name (λ n p. go (at-power c op p) o [])
   offers (at-power c op p) o = only (powers (m .version-1) c op p o)
   offers (at-exponent c op p) o = a-whole (λ w q. limit (decLe (w .size) 99) 5 (at-factor c) o (a-unit op p w ∷ []))

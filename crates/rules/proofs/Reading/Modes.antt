@@ -43,7 +43,7 @@ ends-members false g o p = (6, refl)
 module _ (m : Mode) where
   ends-offered : (c : Place) (o : Opens) (p : Span) → Refusal (judge strict (offered m c o .ends false p))
   ends-offered alone o p = ends-after (m .pvl) o p
-  ends-offered (member-of g) o p = ends-members (m .members-beside) g o p
+  ends-offered (member-of g) o p = ends-members (m .version-1) g o p
 
   pub ends-offers : (q : State) (o : Opens) (p : Span) → Refusal (step m strict q o (end false on p))
   ends-offers at-statement o p = ends-statements (m .pvl) o p
@@ -56,7 +56,7 @@ module _ (m : Mode) where
   ends-offers (at-closed n) o p = (6, refl)
   ends-offers (at-scalar c a) o p = (6, refl)
   ends-offers (at-number c) o p = ends-offered c o p
-  ends-offers (at-member g) o p = ends-members (m .members-beside) g o p
+  ends-offers (at-member g) o p = ends-members (m .version-1) g o p
   ends-offers at-row o p = (6, refl)
   ends-offers at-next-row o p = (6, refl)
   ends-offers (at-unit c op) o p = (6, refl)

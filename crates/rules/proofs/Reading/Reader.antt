@@ -107,7 +107,7 @@ module _ (m : Mode) where
   reach-reading : {es : List Placed} {q : State} {o : Opens} {rs : List Row} → Reach m strict at-statement outside es q o rs → reading m strict es ≡ Run.ended q o rs
   reach-reading t = simp append-nil at (reach-run m strict t [])
 
-  reach-early : {es : List Placed} {q : State} {o : Opens} {rs : List Row} → Reach m strict at-statement outside es q o rs → isEnd q ≡ false → Early m es
+  pub reach-early : {es : List Placed} {q : State} {o : Opens} {rs : List Row} → Reach m strict at-statement outside es q o rs → isEnd q ≡ false → Early m es
   reach-early {es} {q} {o} {rs} t x = early m es q o rs (reach-reading t) (λ rows. ended-not x)
 
   is-end : (q : State) → isEnd q ≡ true → q ≡ at-end

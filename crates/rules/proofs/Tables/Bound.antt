@@ -1,4 +1,4 @@
--- A table is at most five times as long as its label, in every mode in which a comma stands between members.
+-- A table is at most five times as long as its label, in every mode but version 1, which may leave commas out.
 use Prim.Native.Nat.{ℕ, suc, _+_, _*_, _≤_}
 use native.Mathlib.Omega.{arith}
 use mathlib.Core.Path.{_≡_, refl, sym, ap, _∙_}
@@ -34,7 +34,7 @@ listed-short : (xs ys zs : List Placed) (rs qs ps : List Row) → Nearly xs rs �
 listed-short xs ys zs rs qs ps a b c d =
     omega (arith, size-append rs (qs ++ ps), size-append qs ps, widths-append xs (ys ++ zs), widths-append ys zs)
 
-module _ (m : Mode) (s : Strictness) (commas : m .members-beside ≡ false) where
+module _ (m : Mode) (s : Strictness) (commas : m .version-1 ≡ false) where
   factor-short : {op : Op} {xs : List Placed} {r : Row} → Factor m s op xs r → size (r ∷ []) ≤ 5 * widths xs + 2
   factor-short (factor x) = omega arith
 
@@ -109,7 +109,7 @@ module _ (m : Mode) (s : Strictness) (commas : m .members-beside ≡ false) wher
       omega (arith, statements-short ss, widths-append xs (end b on p ∷ []), size-append rs (last (p .upto) ∷ []))
 
 -- the table of a label is at most five times as long as the label up to END, and so as the whole of it
-module _ (m : Mode) (commas : m .members-beside ≡ false) where
+module _ (m : Mode) (commas : m .version-1 ≡ false) where
   pub mode-bound : {l : List ℕ} {rows : List Row} {i : ℕ} → Judged m l (accepted rows i) → length (table rows) ≤ 5 * i
   mode-bound (follows c k) = omega (arith, label-short m strict commas k, cut-widths c)
 

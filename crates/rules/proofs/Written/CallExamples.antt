@@ -75,4 +75,6 @@ unfolding name-discrete ℕ-discrete decLt decLe unpadded digits wide indent isN
 calls-hold =
     all-hold {xs = calls}
     (refl and refl and refl and refl and refl and refl and refl and refl and refl and refl and refl and refl and refl and refl and refl and refl and refl and refl
+    and refl and refl and refl and refl and refl
+    and (record { rows = _; past = _; reading = refl; writing = refl; short = omega arith; short-after = omega arith })
     and (record { rows = _; past = _; reading = refl; writing = refl; short = omega arith; short-after = omega arith }) and no-more)

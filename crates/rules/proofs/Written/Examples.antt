@@ -41,10 +41,10 @@ blocks : (opened object (ascii "A") ∷ opened group (ascii "B") ∷ pointer (as
 unfolding unpadded digits wide indent
 blocks = refl
 
--- rows side by side, integers in decimal, minus only
+-- `, ` between rows, integers in decimal, minus only
 rows : (attribute (ascii "A") ∷ sequence ∷ sequence ∷ an-integer (plus 1) ∷ an-integer (plus 9223372036854775807) ∷ sequence-end ∷ sequence ∷ an-integer (minus 30) ∷ sequence-end
     ∷ sequence-end ∷ [])
-    writes ("A = ((1, 9223372036854775807)(-30))" ∷ [])
+    writes ("A = ((1, 9223372036854775807), (-30))" ∷ [])
 unfolding unpadded digits wide indent
 rows = refl
 

@@ -7,7 +7,7 @@ use mathlib.Core.List.{List, [], _∷_, _++_, append-assoc, append-nil}
 use Rattle.rules.specs.Bytes.{ascii}
 use Rattle.rules.specs.Data.{Whole, Name, Fixed, equals, comma, star, slash, caret, less, greater, lpar, rpar, lbrace, rbrace, power, Elem, name, the, end, integer, real, moment, text, symbol, opener, closer, Op, first, times, divided, Opens, outside, inside, depth, attribute, pointer, opened, closed, an-integer, a-real, a-moment, a-text, a-symbol, a-unit, sequence, sequence-end, set, set-end, last}
 use Rattle.rules.specs.Meaning.{Sense}
-use Rattle.rules.specs.Written.{decimal, realBytes, momentBytes, isName, symbolBytes, opSign, isOne, openWord, closeWord, Prior, start, heading, member, factor, bracket, prior, unitsEnd, lead, newLine, around, after, repeats, writes, writesAll, canonical}
+use Rattle.rules.specs.Written.{decimal, realBytes, momentBytes, isName, symbolBytes, opSign, isOne, openWord, closeWord, Prior, start, heading, member, factor, prior, unitsEnd, lead, newLine, around, after, repeats, writes, writesAll, canonical}
 
 pub record WrittenPiece : Type 0 where
   pub gap : List ℕ
@@ -56,27 +56,20 @@ closing start = []
 closing heading = []
 closing member = []
 closing factor = sign [] (byte ">" ∷ []) greater ∷ []
-closing bracket = []
 
--- between two rows
-abbrev pub rowPieces : List WrittenPiece
-rowPieces = []
-
--- between members, a comma
+-- between members, and between the rows of a sequence of sequences, a comma
 abbrev pub apart : Prior → List WrittenPiece
 apart start = []
 apart heading = []
 apart member = sign [] (byte "," ∷ []) comma ∷ []
 apart factor = sign [] (byte ">" ∷ []) greater ∷ sign [] (byte "," ∷ []) comma ∷ []
-apart bracket = rowPieces
 
--- before a value: a space after `=` and after a comma, none in or after a bracket
+-- before a value: a space after `=` and after a comma, none where a bracket has just opened
 abbrev pub before : Prior → List ℕ
 before start = []
 before heading = space
 before member = space
 before factor = space
-before bracket = []
 
 -- ---- rows
 
@@ -126,14 +119,12 @@ closing-bytes start = refl
 closing-bytes heading = refl
 closing-bytes member = refl
 closing-bytes factor = refl
-closing-bytes bracket = refl
 
 apart-bytes : (q : Prior) (s : List ℕ) → bytesOf (apart q) ++ (before q ++ s) ≡ unitsEnd q ++ (lead q ++ s)
 apart-bytes start s = refl
 apart-bytes heading s = refl
 apart-bytes member s = refl
 apart-bytes factor s = refl
-apart-bytes bracket s = refl
 
 -- behind what closes the row before
 after-closing : (q : Prior) (ps : List WrittenPiece) (s : List ℕ) → bytesOf ps ≡ s → bytesOf (closing q ++ ps) ≡ unitsEnd q ++ s

@@ -7,7 +7,7 @@ use lib.ListN.{length, length-append}
 use native.Mathlib.Omega.{arith}
 use lib.Seq.{take-at, drop-at}
 use Rattle.rules.specs.Proper.{Each, none, one, stretch}
-use Rattle.rules.specs.Written.{isName, isOne, Prior, start, heading, member, factor, bracket, prior, after, canonical}
+use Rattle.rules.specs.Written.{isName, isOne, Prior, start, heading, member, factor, prior, after, canonical}
 use Rattle.rules.specs.Data.{Op, first, times, divided, Opens, outside, attribute, pointer, opened, closed, an-integer, a-real, a-moment, a-text, a-symbol, a-unit, sequence, sequence-end, set, set-end, last}
 use Rattle.rules.specs.Meaning.{Sense, foldAll, reassemble, sense, meaning}
 use Rattle.rules.proofs.Written.Pieces.{bytes-append, written-bytes, WrittenPiece, called, symbolPiece, exponentPieces, opPiece, closing, apart, before, piecesOf, pieces, bytesOf}
@@ -63,14 +63,12 @@ span-closing n start ps = refl
 span-closing n heading ps = refl
 span-closing n member ps = refl
 span-closing n factor ps = refl
-span-closing n bracket ps = refl
 
 span-apart : (n : ℕ) (q : Prior) (ps : List WrittenPiece) → spanIn n (apart q ++ ps) ≡ spanIn (skip n (apart q)) ps
 span-apart n start ps = refl
 span-apart n heading ps = refl
 span-apart n member ps = refl
 span-apart n factor ps = refl
-span-apart n bracket ps = refl
 
 module _ (whole : List ℕ) (post : List ℕ) where
   -- a name, first or after other elements

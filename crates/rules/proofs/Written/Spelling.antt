@@ -10,7 +10,7 @@ use borrow.Author.Tests.{ne-eqb, le-leb}
 use lib.Dec.{leb, eqb}
 use lib.ListN.{length, length-append}
 use Rattle.rules.specs.Values.{each}
-use Rattle.rules.specs.Written.{isOne, isName, decimal, realBytes, momentBytes, openWord, closeWord, Prior, start, heading, member, factor, bracket, prior, indent, newLine, after, around, canonical}
+use Rattle.rules.specs.Written.{isOne, isName, decimal, realBytes, momentBytes, openWord, closeWord, Prior, start, heading, member, factor, prior, indent, newLine, after, around, canonical}
 use Rattle.rules.specs.Proper.{Each, theRules}
 use Rattle.rules.specs.Bytes.{between, wordByte, front, All, ascii}
 use Rattle.rules.specs.Data.{Whole, Fixed, equals, comma, caret, less, greater, lpar, rpar, lbrace, rbrace, power, Elem, name, the, end, integer, real, moment, text, symbol, _on_, Kind, object, group, opener, closer, Op, first, times, divided, Opens, outside, inside, depth, attribute, pointer, opened, closed, an-integer, a-real, a-moment, a-text, a-symbol, a-unit, sequence, sequence-end, set, set-end, last}
@@ -73,7 +73,6 @@ gap-line start d l = gap-indent d l
 gap-line heading d l = blank refl (blank refl (gap-indent d l))
 gap-line member d l = blank refl (blank refl (gap-indent d l))
 gap-line factor d l = blank refl (blank refl (gap-indent d l))
-gap-line bracket d l = blank refl (blank refl (gap-indent d l))
 
 gap-space : (l : List ℕ) → Gap theRules space l
 gap-space l = blank refl no-gap
@@ -83,7 +82,6 @@ gap-before start l = no-gap
 gap-before heading l = gap-space l
 gap-before member l = gap-space l
 gap-before factor l = gap-space l
-gap-before bracket l = no-gap
 
 -- ---- signs and words
 
@@ -128,7 +126,6 @@ Ends start = ⊥
 Ends heading = Unit {0}
 Ends member = Unit {0}
 Ends factor = Unit {0}
-Ends bracket = ⊥
 
 line-first : (q : Prior) → Ends q → (d : ℕ) (m w : List ℕ) (e : Elem) (ps : List WrittenPiece) (r : List ℕ) →
     inWord (bytesOf (closing q ++ (record { gap = newLine q d; mark = m; word = w; elem = e } ∷ ps)) ++ r) ≡ false
@@ -136,7 +133,6 @@ line-first start h d m w e ps r = absurd h
 line-first heading h d m w e ps r = refl
 line-first member h d m w e ps r = refl
 line-first factor h d m w e ps r = refl
-line-first bracket h d m w e ps r = absurd h
 
 apart-first : (q : Prior) → Ends q → (m w : List ℕ) (e : Elem) (ps : List WrittenPiece) (r : List ℕ) →
     inWord (bytesOf (apart q ++ (record { gap = before q; mark = m; word = w; elem = e } ∷ ps)) ++ r) ≡ false
@@ -144,7 +140,6 @@ apart-first start h m w e ps r = absurd h
 apart-first heading h m w e ps r = refl
 apart-first member h m w e ps r = refl
 apart-first factor h m w e ps r = refl
-apart-first bracket h m w e ps r = absurd h
 
 symbol-first : (q : Prior) → Ends q → (w : List ℕ) (b : Bool) (r : List ℕ) → inWord (bytesOf (apart q ++ (symbolPiece (before q) w b ∷ [])) ++ r) ≡ false
 symbol-first q h w true r = apart-first q h [] w (name w) [] r
@@ -155,7 +150,6 @@ end-first start h b f r k = absurd h
 end-first heading h b f r k = k
 end-first member h b f r k = k
 end-first factor h b f r k = refl
-end-first bracket h b f r k = absurd h
 
 op-first : (op : Op) (ps : List WrittenPiece) (r : List ℕ) → inWord (bytesOf (opPiece op ∷ ps) ++ r) ≡ false
 op-first first ps r = refl
@@ -196,14 +190,12 @@ closing-spelled start ps r h = h
 closing-spelled heading ps r h = h
 closing-spelled member ps r h = h
 closing-spelled factor ps r h = (a-sign-spelled [] (λ l. no-gap) 62 greater _ refl, h)
-closing-spelled bracket ps r h = h
 
 apart-spelled : (q : Prior) (ps : List WrittenPiece) (r : List ℕ) → AllSpelled ps r → AllSpelled (apart q ++ ps) r
 apart-spelled start ps r h = h
 apart-spelled heading ps r h = h
 apart-spelled member ps r h = (a-sign-spelled [] (λ l. no-gap) 44 comma _ refl, h)
 apart-spelled factor ps r h = (a-sign-spelled [] (λ l. no-gap) 62 greater _ refl, (a-sign-spelled [] (λ l. no-gap) 44 comma _ refl, h))
-apart-spelled bracket ps r h = h
 
 repeat-spelled : (o : Opens) (r : List ℕ) → Uppers o → inWord r ≡ false → AllSpelled (repeatPieces o) r
 repeat-spelled outside r u h = tt

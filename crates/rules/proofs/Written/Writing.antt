@@ -9,13 +9,13 @@ use borrow.Author.Tests.{eqb-true}
 use lib.Dec.{eqb}
 use lib.ListN.{length}
 use Rattle.rules.specs.Proper.{theRules, Each, one as also-one}
-use Rattle.rules.specs.Written.{isName, isOne, openWord, closeWord, Prior, heading, member, factor, bracket, prior, newLine, after as opens-after, start}
+use Rattle.rules.specs.Written.{isName, isOne, openWord, closeWord, Prior, heading, member, factor, prior, newLine, after as opens-after, start}
 use Rattle.rules.specs.Data.{Span, Whole, one, Real, Moment, Name, Fixed, equals, star, slash, caret, less, greater, name, the, end, Placed, _on_, Kind, Kind-discrete, object, group, opener, closer, Op, first, times, divided, Opens, outside, inside, depth, Row, attribute, pointer, opened, closed, an-integer, a-real, a-moment, a-text, a-symbol, a-unit, sequence, sequence-end, set, set-end, last}
 use Rattle.rules.specs.Grammar.{strict, unwritten, Label}
 use Rattle.rules.specs.Meaning.{Sense}
 use Rattle.rules.specs.Bytes.{ascii}
 use Rattle.rules.proofs.Written.Pieces.{WrittenPiece, sign, plain, called, space, is, symbolPiece, exponentPieces, closing, apart, piecesOf, pieces, writtenPieces}
-use Rattle.rules.proofs.Machine.Statements.{Group, in-sequence, in-row, in-set, Place, alone, within, Else, no-else, any-value, a-row, a-set-end, State, at-statement, at-semicolon, at-equals, at-pointer, at-opener, at-opened, at-closer, at-closed, at-scalar, at-number, at-member, at-row, at-unit, at-power, at-exponent, at-factor, at-end, goes, judge, step, after, name-discrete, chosen}
+use Rattle.rules.proofs.Machine.Statements.{Group, in-sequence, in-row, in-set, Place, alone, within, Else, no-else, any-value, a-row, a-set-end, State, at-statement, at-semicolon, at-equals, at-pointer, at-opener, at-opened, at-closer, at-closed, at-scalar, at-number, at-member, at-row, at-next-row, at-unit, at-power, at-exponent, at-factor, at-end, goes, judge, step, after, name-discrete, chosen}
 use Rattle.rules.proofs.Grammar.Rest.{Rest, r-factor, r-power, r-end}
 use Rattle.rules.proofs.Grammar.Sound.{sound-step, semicolon-missing, number-units}
 use Rattle.rules.proofs.Grammar.Complete.{limit-kept, name-found, caret-found, open-found}
@@ -54,7 +54,7 @@ pub data Agrees : Await → Prior → Type 0 where
   g-first : Agrees t-first start
   g-set-first : Agrees t-set-first start
   g-in-row : Agrees t-in-row start
-  g-row : Agrees t-row bracket
+  g-row : Agrees t-row member
   g-number : {c : Place} → Agrees (t-number c) member
   g-units : {c : Place} → Agrees (t-units c) factor
   g-member : {g : Group} → Agrees (t-member g) member
@@ -246,10 +246,10 @@ fit-inner o r is-sequence v = (refl, g-in-row, λ n ys qs s. via (at-scalar (wit
 fit-empty : (o : Opens) → Fit (at-scalar (within in-set) a-set-end) start o s-set-end (to t-statement (kinds o))
 fit-empty o r is-set-end v = (refl, g-statement refl, λ n ys qs s. via (at-scalar (within in-set) a-set-end) o _ refl (semicolon-missing theRules strict s))
 
-fit-next-row : (o : Opens) → Fit at-row bracket o s-sequence (to t-in-row (kinds o))
-fit-next-row o r is-sequence v = (refl, g-in-row, λ n ys qs s. via at-row o _ refl s)
+fit-next-row : (o : Opens) → Fit at-row member o s-sequence (to t-in-row (kinds o))
+fit-next-row o r is-sequence v = (refl, g-in-row, λ n ys qs s. via at-row o _ refl (via at-next-row o _ refl s))
 
-fit-rows-end : (o : Opens) → Fit at-row bracket o s-sequence-end (to t-statement (kinds o))
+fit-rows-end : (o : Opens) → Fit at-row member o s-sequence-end (to t-statement (kinds o))
 fit-rows-end o r is-sequence-end v = (refl, g-statement refl, λ n ys qs s. via at-row o _ refl (semicolon-missing theRules strict s))
 
 fit-sequence-end : (o : Opens) → Fit (at-member in-sequence) member o s-sequence-end (to t-statement (kinds o))

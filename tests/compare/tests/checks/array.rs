@@ -8,11 +8,12 @@ use odl_model::random::{self, Random};
 const ARRAY: usize = 16_384;
 
 /// Statements, each with the length of its rows.
-const STATEMENTS: [(&str, usize); 4] = [
+const STATEMENTS: [(&str, usize); 5] = [
     ("A=12\n", 5 + 9),
     ("A=B\n", 5 + 5),
     ("A={}\n", 5 + 2),
     ("A=2026-11-15T08:00+01:00\n", 5 + 15),
+    ("A=((B),(C))\n", 5 + 2 + 2 * 7),
 ];
 
 /// The row of END.
@@ -21,20 +22,22 @@ const LAST: usize = 3;
 /// A label whose table has this length. Its statements come in the order that
 /// the number gives, so that the last rows before a place differ.
 fn label_for(table: usize, number: usize) -> Vec<u8> {
-    let mut label = Vec::new();
+    let mut rest = Vec::new();
     let mut left = table - LAST;
     for at in number.. {
         let (statement, rows) = STATEMENTS[(at * at + at / 3) % STATEMENTS.len()];
         if left < 200 {
             break;
         }
-        label.extend_from_slice(statement.as_bytes());
+        rest.extend_from_slice(statement.as_bytes());
         left -= rows;
     }
-    // What is left is at least 180, and any such number is sevens and tens.
+    // What is left is at least 179, and any such number is sevens and tens. It
+    // stands first, so that the array is full among the other statements.
     let tens = (0..7).find(|tens| (left - 10 * tens) % 7 == 0).unwrap();
-    label.extend("A=B\n".repeat(tens).bytes());
+    let mut label = "A=B\n".repeat(tens).into_bytes();
     label.extend("A={}\n".repeat((left - 10 * tens) / 7).bytes());
+    label.extend(rest);
     label.extend(b"END\n");
     label
 }

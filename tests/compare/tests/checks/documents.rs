@@ -1,4 +1,4 @@
-//! What the documents say of written labels, texts, names and lookups, worked out by hand.
+//! What the documents say of written labels, rows, texts, names and lookups, worked out by hand.
 
 use odl::Code;
 
@@ -86,12 +86,63 @@ fn units_sequences_and_sets_are_written_in_one_way() {
         ("1<m/s**1>", "1 <M/S>"),
         ("1.5 <m**0>", "15.E-1 <M**0>"),
         ("(1,2 <m>,x)", "(1, 2 <M>, X)"),
-        ("((1,2)(3))", "((1, 2)(3))"),
+        ("((1,2),(3,4))", "((1, 2), (3, 4))"),
+        ("((a)\n,(b,'c d') , (1<m>))", "((A), (B, 'C D'), (1 <M>))"),
+        ("((1))", "((1))"),
         ("{a,'b c'}", "{A, 'B C'}"),
         ("{ }", "{}"),
     ] {
         assert_eq!(written(value), form, "{value}");
     }
+}
+
+/// 02 §2: one comma between rows, and nothing but a row after it.
+#[test]
+fn rows_are_read_with_one_comma_between() {
+    for (value, number, place) in [
+        ("((1,2)(3,4))", 6, 8),
+        ("((1),(2) (3))", 6, 11),
+        ("((1)/*,*/\n(2))", 6, 12),
+        ("(,(1))", 6, 3),
+        ("((1,2),)", 6, 9),
+        ("((1,2),,(3))", 6, 9),
+        ("((1),2)", 6, 7),
+        ("((1) 2)", 6, 7),
+        ("(1,(2))", 6, 5),
+        ("((1),{})", 6, 7),
+        ("((1),())", 6, 8),
+        ("((1,2),((3)))", 6, 10),
+        ("((1),(2,(3)))", 6, 10),
+        ("((1),1E)", 4, 7),
+    ] {
+        let label = format!("A={value} END");
+        let refused = refusal(odl::relabel(label.as_bytes()));
+        assert_eq!(refused, (code(number), place), "{value}");
+    }
+    for label in ["A=((1)", "A=((1),", "A=((1),("] {
+        let refused = refusal(odl::relabel(label.as_bytes()));
+        assert_eq!(refused, (code(10), label.len()), "{label}");
+    }
+}
+
+#[test]
+fn rows_of_a_table_do_not_show_the_comma() {
+    let one = [10, 0, 0, 0, 0, 0, 0, 0, 1];
+    let expected = [
+        &[1, 0, 0, 0, 1, 20][..],
+        &[20],
+        &one,
+        &[21],
+        &[20],
+        &one,
+        &[21],
+        &[21],
+        &[99, 0, 15],
+    ];
+    assert_eq!(table(b"A=((1),(1)) END"), expected.concat());
+    // Shown nothing but the name, the writer puts the comma in.
+    let written = odl::write(b"A", &[&expected[..8], &[&[99, 0, 1]]].concat().concat());
+    assert_eq!(written.unwrap(), b"A = ((1), (1))\r\nEND\r\n");
 }
 
 #[test]

@@ -228,6 +228,12 @@ fn accepted_layouts() {
         0,
         None,
     );
+    alike(
+        "A=((1,2),(3),(X))END",
+        "A = ( (1,2)/* , */ ,\n, (3)\n\t,/* ( */ (\n\r\n(X) ) END",
+        0,
+        None,
+    );
 }
 
 #[test]
@@ -246,6 +252,15 @@ fn layouts_refused_at_an_element() {
     alike("A=1<M* *2>END", "A=1<M*/*/*/*\n*2>END", 6, at(6));
     alike("A=\"t\"<M> END", "A = \"t\" /* x */\n <M> END", 6, at(3));
     alike("A=END;", "A = END\"", 6, at(2));
+    alike("A=((1)(2))END", "A=((1)/*,*/ ,\n(2)) END", 6, at(6));
+    alike(
+        "A=((1),)END",
+        "A = ( ( 1 )\n,/* (2) */ (2)\n) END",
+        6,
+        at(7),
+    );
+    alike("A=((1),,(2))END", "A=((1) , /* */\n, (2)) END", 6, at(7));
+    alike("A=((1),2)END", "A=((1),\n/*(*/(\n2) END", 6, at(7));
     alike("OBJECT=X END", "OBJECT=X/**/\nEND x", 6, at(3));
     alike(
         "OBJECT=X END_OBJECT=Y END",
@@ -286,6 +301,7 @@ fn layouts_refused_at_the_inputs_end() {
     alike("", "/* END */ END", 10, end);
     alike("A=(1,2", "A=(1,2 ", 10, end);
     alike("A=(1,2", "A = ( 1 , 2 /* ) */ ) END", 10, end);
+    alike("A=((1),", "A = ( (1) , /* (2)) */ (2)) END", 10, end);
     alike("A=1", "A\n=\n1\n", 10, end);
     alike(
         "OBJECT=A B=1 END_OBJECT",
@@ -313,6 +329,8 @@ fn what_is_more_than_layout() {
     unlike("A=1 END", 0, "A=1END", 4);
     unlike("A=1 /* x */\nB=2 END", 0, "A=1 /* x */ B=2 END", 10);
     unlike("A=1 /* x */\nEND", 0, "A=1 /* x *\nEND", 3);
+    unlike("A=((1),(2)) END", 0, "A=((1) (2)) END", 6);
+    unlike("A=((1),(2)) END", 0, "A=((1)/*,*/\n(2)) END", 6);
     unlike("END ", 0, "END;", 9);
     unlike("END", 0, "", 10);
     // Elements are the same byte for byte only, whatever they mean.

@@ -18,7 +18,7 @@ fn labels_of(length: usize) -> Vec<Vec<u8>> {
         filled("END\n", "\u{7f}&", ""),
         filled("", "A=1 ", "\nEND"),
         filled("A=(", "1,", "1)END"),
-        filled("A=((", "1)(", "1))END"),
+        filled("A=((", "1),(", "1))END"),
         filled("A={", "-.5e-3 <KM/S**-2>,", ""),
         filled("A=\"", "x-\n ", "\" END"),
         filled("A=\"", "x", ""),
@@ -48,7 +48,10 @@ fn longest_labels_agree() {
             };
             accepted += 1;
             let table = read.into_table().into_bytes();
-            assert!(table.len() <= 5 * label.len(), "header: room that is always enough");
+            assert!(
+                table.len() <= 5 * label.len(),
+                "header: room that is always enough"
+            );
             let case = Case::over(Call::Write, &label, &table);
             case.check_rooms().unwrap();
             check_rows(&label, &table);

@@ -1,21 +1,34 @@
 //! Random cases; ODL_SEED chooses others.
 
 use crate::support::seed;
-use compare::chance::{self, Until};
+use compare::chance::{self, Tally, Until, ROWS_WRITTEN};
 use compare::Call;
 use odl::Row;
 use odl_model::random::Random;
+use odl_model::rows;
 use std::io::Write;
 
 const CASES: u64 = 150_000;
 
+/// Every case of the rule for rows must come up more often than this.
+const ROWS: u64 = 20;
+
 #[test]
-fn random_cases_agree_and_reach_every_code() {
+fn random_cases_agree_and_reach_every_code_and_case_of_rows() {
     let seed = seed();
     // Past the test's capture, so that it is seen even if the library crashes.
     let _ = writeln!(std::io::stderr(), "random cases with seed {seed}");
     let tally = chance::run(seed, Until::Cases(CASES)).unwrap_or_else(|text| panic!("{text}"));
-    assert_eq!(tally.values().sum::<u64>(), CASES);
+    assert_eq!(tally.codes.values().sum::<u64>(), CASES);
+    check_codes(&tally);
+    for case in rows::names().chain([ROWS_WRITTEN]) {
+        let count = tally.rows.get(case).copied().unwrap_or(0);
+        assert!(count > ROWS, "{case}: {count}");
+    }
+}
+
+/// Every call answered with every code that it has.
+fn check_codes(tally: &Tally) {
     let expected: [(Call, &[u8]); 5] = [
         (Call::Read, &[0, 1, 2, 3, 4, 5, 6, 7, 8, 9, 10, 11]),
         (Call::Write, &[0, 1, 11, 12, 13]),
@@ -27,7 +40,7 @@ fn random_cases_agree_and_reach_every_code() {
         .iter()
         .flat_map(|&(call, codes)| codes.iter().map(move |&code| (call, code)))
         .collect();
-    let reached: Vec<(Call, u8)> = tally.keys().copied().collect();
+    let reached: Vec<(Call, u8)> = tally.codes.keys().copied().collect();
     assert_eq!(reached, expected);
 }
 

@@ -202,10 +202,10 @@ fn table_bytes_of_dates_times_and_texts() {
 
 #[test]
 fn written_label_has_every_form() {
-    let label = b"a=1 ^b=(1,-2.0) c=((x,'y z')(3)) d={} e={t,\"T\n u\"} \
+    let label = b"a=1 ^b=(1,-2.0) c=((x,'y z'),(3)) d={} e={t,\"T\n u\"} \
         object=o group=g f=16#-ff# <m*s**-2/kg**1> end_group end_object \
         h=(0.0, -5e3, 12:0, 0001-1-2, 1999-365t1:2:3.040-0:5, 9:9+12:59) END";
-    let written = "A = 1\r\n^B = (1, -2.)\r\nC = ((X, 'Y Z')(3))\r\nD = {}\r\n\
+    let written = "A = 1\r\n^B = (1, -2.)\r\nC = ((X, 'Y Z'), (3))\r\nD = {}\r\n\
         E = {T, \"T u\"}\r\nOBJECT = O\r\n  GROUP = G\r\n    F = -255 <M*S**-2/KG>\r\n  \
         END_GROUP = G\r\nEND_OBJECT = O\r\n\
         H = (0., -5.E3, 12:00:00Z, 0001-01-02, 1999-12-31T01:02:03.04-00:05, \

@@ -172,7 +172,7 @@ fn gaps<'a>(label: &'a [u8], list: &List) -> Vec<&'a [u8]> {
 
 #[test]
 fn layouts_are_of_many_sorts() {
-    let label = b"A=(1,\"t\") B=2 <M*S**2/V> END";
+    let label = b"A=((1,\"t\"),(2)) B=2 <M*S**2/V> END";
     let list_before = list(label).unwrap();
     let mut random = Random::new(11);
     let mut layouts = BTreeMap::new();

@@ -46,6 +46,7 @@ fn spelling_and_layout_do_not_count() {
         ("A=1990-07 END", "A=1990-1-7 END"),
         ("A=12:00 END", "A=12:00:00.000Z END"),
         ("A=1<m> END", "A=1<M**+1> END"),
+        ("A=((1),(x)) END", "A=( (01) /* , */\n, ('X') ) END"),
         ("OBJECT=A END_OBJECT END", "object=a end_object=A END"),
     ] {
         assert_eq!(meaning_of(one), meaning_of(other), "{one:?} {other:?}");
@@ -64,6 +65,8 @@ fn all_else_counts() {
         ("A=\"a-b\" END", "A=\"ab\" END"),
         ("A=1 END", "A=(1) END"),
         ("A=(1) END", "A=((1)) END"),
+        ("A=((1,2)) END", "A=((1),(2)) END"),
+        ("A=((1),(2,3)) END", "A=((1,2),(3)) END"),
         ("A=(1) END", "A={1} END"),
         ("A={1,2} END", "A={2,1} END"),
         ("A=1 B=2 END", "B=2 A=1 END"),

@@ -354,8 +354,6 @@ fn comment_in_an_empty_set() {
 
 #[test]
 fn sequences_of_sequences() {
-    refused("A=((1),(2)) END", 6, 6);
-    refused("A=((1) 2) END", 6, 7);
     refused("A=(1 (2)) END", 6, 5);
     refused("A=(()) END", 6, 4);
     refused("A=(((1))) END", 6, 4);
@@ -363,11 +361,6 @@ fn sequences_of_sequences() {
     refused("A={(1)} END", 6, 3);
     refused("A=(1,) END", 6, 5);
     refused("A={1,} END", 6, 5);
-    value(
-        "((1)(2))",
-        "sequence; sequence; integer 1; end of sequence; sequence; integer 2; \
-         end of sequence; end of sequence",
-    );
 }
 
 #[test]

@@ -18,9 +18,6 @@ returns-3 c = lead-is (c .before .before .before .before .before .enum-told3 .gi
 returns-4 : tie.Need-returns-4
 returns-4 c = lead-is (c .before .before .before .before .before .enum-told4 .given .1) (c .before .before .put-bytes3 .ensures) refl
 
-returns-5 : tie.Need-returns-5
-returns-5 c = lead-is (c .before .before .before .before .enum-told5 .given .1) (c .before .before .put-between-rows .ensures .0) refl
-
 pub put-gap-spec : {M : Type 1} → statement M
 put-gap-spec =
     tie.close
@@ -35,14 +32,10 @@ put-gap-spec =
     (λ c. search needs)
     (λ c. search needs)
     (λ c κs. search needs)
-    (λ c. search needs)
-    (λ c κs. search needs)
     returns
     (λ c. search needs)
     returns-2
     (λ c. search needs)
     returns-3
     (λ c. search needs)
-    returns-4
-    (λ c. search needs)
-    returns-5)
+    returns-4)

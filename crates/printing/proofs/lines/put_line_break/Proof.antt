@@ -18,17 +18,11 @@ returns-3 c = break-is (c .before .before .before .before .before .enum-told3 .g
 returns-4 : tie.Need-returns-4
 returns-4 c = break-is (c .before .before .before .before .before .enum-told4 .given .1) (c .before .before .put-bytes3 .ensures) refl
 
-returns-5 : tie.Need-returns-5
-returns-5 c = break-is (c .before .before .before .before .before .enum-told5 .given .1) (c .before .before .put-bytes4 .ensures) refl
-
 pub put-line-break-spec : {M : Type 1} → statement M
 put-line-break-spec =
     tie.close
     (tie.spec
     (λ c. search needs)
-    (λ c. search needs)
-    (λ c. search needs)
-    (λ c κs. search needs)
     (λ c. search needs)
     (λ c. search needs)
     (λ c κs. search needs)
@@ -44,6 +38,4 @@ put-line-break-spec =
     (λ c. search needs)
     returns-3
     (λ c. search needs)
-    returns-4
-    (λ c. search needs)
-    returns-5)
+    returns-4)

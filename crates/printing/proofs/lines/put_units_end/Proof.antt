@@ -18,9 +18,6 @@ returns-3 c = ends-is (c .enum-told3 .given .1) (nothing _) refl
 returns-4 : tie.Need-returns-4
 returns-4 c = ends-is (c .before .before .before .before .enum-told4 .given .1) (c .before .before .put-byte .ensures) refl
 
-returns-5 : tie.Need-returns-5
-returns-5 c = ends-is (c .enum-told5 .given .1) (nothing _) refl
-
 pub put-units-end-spec : {M : Type 1} → statement M
 put-units-end-spec =
     tie.close
@@ -30,10 +27,8 @@ put-units-end-spec =
     (λ c. search needs)
     (λ c. search needs)
     (λ c κs. search needs)
-    (λ c. search needs)
     returns
     returns-2
     returns-3
     (λ c. search needs)
-    returns-4
-    returns-5)
+    returns-4)
