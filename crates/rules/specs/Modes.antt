@@ -5,8 +5,7 @@ use mathlib.Core.Bool.{Bool, true, false}
 
 -- what differs between the modes
 pub record Mode : Type 0 where
-  -- BEGIN_OBJECT and BEGIN_GROUP stand for OBJECT and GROUP, and a semicolon may follow a statement or an
-  -- opening, and set off END
+  -- BEGIN_OBJECT and BEGIN_GROUP stand for OBJECT and GROUP; a semicolon may follow a statement or an opening, and set off END
   pub pvl : Bool
   -- `lo..hi` may stand as a whole value; the comma between members, or between rows, may be left out; `^` may stand for `**` in units
   pub version-1 : Bool
