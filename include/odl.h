@@ -117,7 +117,12 @@ uint8_t odl_read(const uint8_t *label, size_t label_len,
  * table may come from odl_read or from elsewhere, since it is judged first.
  * Codes 0, 1, 11, 12, 13. On 0 and 11 *length and *place are both the length
  * of the written label, else *length is 0. Two tables that are written with 0,
- * each over its label, mean the same exactly when the written bytes are equal. */
+ * each over its label, by one version of this library, mean the same exactly
+ * when the written bytes are equal.
+ * A real whose power is -18 to -1 is written plainly: 1.5, 0.015. One whose
+ * power is 0 or more, and whose number and zeros come to at most 18 digits, is
+ * written with all of them: 1500.0, and 0.0 for zero. Any other is written with
+ * its power: 15.E-30, 1.E18. */
 uint8_t odl_write(const uint8_t *label, size_t label_len,
                   const uint8_t *table, size_t table_len,
                   uint8_t *out, size_t out_len,

@@ -2,11 +2,12 @@
 
 type Label = fn(usize) -> Vec<u8>;
 
-pub const KINDS: [(&str, Label); 4] = [
+pub const KINDS: [(&str, Label); 5] = [
     ("dense", dense),
     ("padded", padded),
     ("sample", sample),
     ("digits", digits),
+    ("reals", reals),
 ];
 
 /// Names and values of every sort.
@@ -88,5 +89,12 @@ fn sample(size: usize) -> Vec<u8> {
 fn digits(size: usize) -> Vec<u8> {
     filled(size, |number| {
         format!("A=({}{})\n", "1,".repeat(30), number % 10)
+    })
+}
+
+/// Sequences of reals: plain ones, whole ones, and ones written with a power.
+fn reals(size: usize) -> Vec<u8> {
+    filled(size, |number| {
+        format!("A=(1.50,-.015,{number}.25,2E-18,-15.,31459e1,1E17,15E-30,6.02E23)\n")
     })
 }

@@ -167,7 +167,9 @@ def read(data: bytes) -> list:
 
 def relabel(data: bytes) -> bytes:
     """The canonical label; refused just as the program `relabel` refuses it,
-    which has room for a table of 65,535 bytes."""
+    which has room for a table of 65,535 bytes. Reals are plain in it, `1.5`,
+    `0.015` or `100.0`, and have a power of ten, `15.E-30` or `1.E18`, only where
+    it takes more than 18 digits without, behind the period or before it."""
     data = bytes(memoryview(data))
     return _written(data, _filled(LONGEST_LABEL, _reading(data)))
 

@@ -29,7 +29,7 @@ END
 
 CANONICAL = b"""OBJECT = CAM\r
   START = 1990-06-07T15:24:12Z\r
-  HOLD = 15.E-1 <SEC>\r
+  HOLD = 1.5 <SEC>\r
 END_OBJECT = CAM\r
 END\r
 """
@@ -225,6 +225,30 @@ class Relabelling(unittest.TestCase):
         self.assertEqual(odl.relabel(b"A=((1,2),(3,4)) END"), written)
         self.assertEqual(odl.relabel(written), written)
 
+    def test_reals(self):
+        for real, form in [
+            (b"1.50", b"1.5"),
+            (b"15E-3", b"0.015"),
+            (b"-.5", b"-0.5"),
+            (b"-15.", b"-15.0"),
+            (b"-0E5", b"0.0"),
+            (b"1E-18", b"0.000000000000000001"),
+            (b"-123456789012345678E-17", b"-1.23456789012345678"),
+            (b"1E-19", b"1.E-19"),
+            (b"15E-30", b"15.E-30"),
+            (b"1E17", b"100000000000000000.0"),
+            (b"12E16", b"120000000000000000.0"),
+            (b"12E17", b"12.E17"),
+            (b"1E18", b"1.E18"),
+            (b"-9999999999999999990.", b"-999999999999999999.E1"),
+        ]:
+            with self.subTest(real):
+                written = b"A = " + form + b" <SEC>\r\nEND\r\n"
+                self.assertEqual(odl.relabel(b"A=" + real + b"<sec> END"), written)
+                self.assertEqual(odl.relabel(written), written)
+                # The written form is exact too.
+                self.assertEqual(value(form), Decimal(real.decode()))
+
     def test_reading_back_gives_the_same(self):
         with open(os.path.join(ROOT, "examples", "camera.lbl"), "rb") as stream:
             label = stream.read()
@@ -272,6 +296,8 @@ class Comparing(unittest.TestCase):
             (b"+0099", b"99"),
             (b"1.50", b"15.E-1"),
             (b"0E5000", b"-0.0"),
+            (b"1E-18", b"0.000000000000000001"),
+            (b"1E18", b"1000000000000000000.0"),
             (b"1990-158", b"1990-06-07"),
             (b"10:00", b"10:00:00.000Z"),
             (b"-2 <DEG/SEC**1>", b"-2<deg/sec>"),
@@ -284,6 +310,8 @@ class Comparing(unittest.TestCase):
         pairs = [
             (b"1", b"2"),
             (b"1", b"1."),
+            (b"1.5", b"-1.5"),
+            (b"1E17", b"1E18"),
             (b"1 <M>", b"1 <S>"),
             (b"{1, 2}", b"{2, 1}"),
             (b"{1}", b"(1)"),

@@ -157,7 +157,7 @@ static const size_t offsets[] = {0,  5,  10, 15, 16,  25,  32,  39,  46,  57,  5
 static const char canonical[] =
     "OBJECT = CAM\r\n"
     "  GROUP = G\r\n"
-    "    ^P = (-2 <M*S/K**-3>, 15.E-1)\r\n"
+    "    ^P = (-2 <M*S/K**-3>, 1.5)\r\n"
     "  END_GROUP = G\r\n"
     "  T = {1990-06-07, 10:00:00-00:30, 1990-01-07T01:02:03.5Z}\r\n"
     "  N = \"Jupiter\"\r\n"
@@ -268,6 +268,79 @@ static void check_writing(void) {
     CHECK(results(60047, 60047) && untouched());
 }
 
+/* A real's number and power, and how it is written. */
+struct real {
+    int64_t number;
+    int power;
+    const char *form;
+};
+
+/* The table of an attribute with this real, over a label of its name. */
+static void real_table(uint8_t *rows, const struct real *it) {
+    static const uint8_t last[] = {ODL_LAST, 0, 0};
+    static const uint8_t name[] = {ODL_ATTRIBUTE, 0, 0, 0, 1, ODL_REAL};
+    size_t at;
+    memcpy(rows, name, 6);
+    for (at = 0; at < 8; at++) {
+        rows[6 + at] = (uint8_t)((uint64_t)it->number >> (56 - 8 * at));
+    }
+    rows[14] = (uint8_t)((unsigned)it->power >> 8);
+    rows[15] = (uint8_t)it->power;
+    memcpy(rows + 16, last, 3);
+}
+
+static void check_written_reals(void) {
+    static const struct real reals[] = {
+        {15, -1, "1.5"},
+        {15, -3, "0.015"},
+        {-5, -1, "-0.5"},
+        {-15, 0, "-15.0"},
+        {0, 0, "0.0"},
+        {1, -18, "0.000000000000000001"},
+        {INT64_C(-999999999999999999), -18, "-0.999999999999999999"},
+        {INT64_C(999999999999999999), -1, "99999999999999999.9"},
+        {1, -19, "1.E-19"},
+        {15, -30, "15.E-30"},
+        {-1, -999, "-1.E-999"},
+        {1, 17, "100000000000000000.0"},
+        {INT64_C(-999999999999999999), 0, "-999999999999999999.0"},
+        {1, 18, "1.E18"},
+        {INT64_C(999999999999999999), 1, "999999999999999999.E1"},
+        {1, 999, "1.E999"},
+    };
+    uint8_t rows[19];
+    char written[64];
+    size_t at, wanted;
+    for (at = 0; at < sizeof reals / sizeof *reals; at++) {
+        real_table(rows, &reals[at]);
+        wanted = (size_t)sprintf(written, "A = %s\r\nEND\r\n", reals[at].form);
+        CHECK(writes("A", 1, rows, sizeof rows, LONGEST_ROOM) == ODL_ACCEPTED);
+        CHECK(results(wanted, wanted) && holds(written, wanted));
+        CHECK(writes("A", 1, rows, sizeof rows, wanted - 1) == ODL_ROOM_TOO_SHORT);
+        CHECK(results(wanted, wanted) && untouched());
+        /* Read back, all but row 99 is as it was. */
+        CHECK(reads(written, wanted, LONGEST_ROOM) == ODL_ACCEPTED);
+        CHECK(results(wanted - 2, 19) && memcmp(room, rows, 16) == 0);
+    }
+}
+
+static void check_refused_reals(void) {
+    static const struct real reals[] = {
+        {10, 0, NULL},
+        {0, -1, NULL},
+        {INT64_C(1000000000000000001), 0, NULL},
+        {1, 1000, NULL},
+        {1, -1000, NULL},
+    };
+    uint8_t rows[19];
+    size_t at;
+    for (at = 0; at < sizeof reals / sizeof *reals; at++) {
+        real_table(rows, &reals[at]);
+        CHECK(writes("A", 1, rows, sizeof rows, LONGEST_ROOM) == ODL_IMPROPER_TABLE);
+        CHECK(results(5, 0) && untouched());
+    }
+}
+
 static void check_texts(void) {
     CHECK(texts(LABEL, TABLE, 116, LONGEST_ROOM) == ODL_ACCEPTED);
     CHECK(results(0, 7) && holds("Jupiter", 7));
@@ -376,6 +449,8 @@ int main(void) {
     check_row_numbers();
     check_refused_readings();
     check_writing();
+    check_written_reals();
+    check_refused_reals();
     check_texts();
     check_lookups();
     check_names();

@@ -165,6 +165,9 @@ int main(void) {
     measure_all("a long comment", ODL_ACCEPTED, ODL_ACCEPTED, 0, ODL_NAME_ABSENT);
     fill("", "A=-12.5E-3<M> ", 3000, "END");
     measure_all("many statements", ODL_ACCEPTED, ODL_ACCEPTED, 0, ODL_NAME_ABSENT);
+    /* Four reals take 76 bytes when they are written. */
+    fill("A=(", "1E-18,-15E-18,1E17,1E-999,", 800, "1.)END");
+    measure_all("many reals", ODL_ACCEPTED, ODL_ACCEPTED, 0, ODL_NAME_ABSENT);
     printf("the most stack that a call took: %zu bytes of %d\n", most, PROMISED);
     if (most < 1024) {
         stop("the paint does not tell");

@@ -105,6 +105,12 @@ fn label_of_text(length: usize) -> Vec<u8> {
     format!("A=\"{}\" END", "x".repeat(length)).into_bytes()
 }
 
+/// `A="xx..x" B=(1E-18,1E-18,..,1E-18) END`, each real written with 20 bytes.
+fn label_of_reals(text: usize, reals: usize) -> Vec<u8> {
+    let (text, more) = ("x".repeat(text), "1E-18,".repeat(reals - 1));
+    format!("A=\"{text}\" B=({more}1E-18) END").into_bytes()
+}
+
 fn padded(end: &str, length: usize) -> Vec<u8> {
     let mut label = vec![b' '; length];
     label[length - end.len()..].copy_from_slice(end.as_bytes());
@@ -115,7 +121,7 @@ const EXAMPLE: &str = "object = cam /* rig 4 */ ignored\n start = 1990-158T15:24
     hold = 1.50 <sec**1>\nend_object\nEND\n";
 
 const EXAMPLE_WRITTEN: &str = "OBJECT = CAM\r\n  START = 1990-06-07T15:24:12Z\r\n  \
-    HOLD = 15.E-1 <SEC>\r\nEND_OBJECT = CAM\r\nEND\r\n";
+    HOLD = 1.5 <SEC>\r\nEND_OBJECT = CAM\r\nEND\r\n";
 
 fn refused(label: &str, code: u8, place: usize) -> (Vec<u8>, String) {
     let line = format!("REFUSED {code} {place}\r\n");
@@ -149,6 +155,7 @@ fn listed() -> Vec<(Vec<u8>, String)> {
     }
     list.extend(about_as_long_as_may_be());
     list.extend(rows());
+    list.extend(reals());
     list
 }
 
@@ -165,13 +172,31 @@ fn rows() -> [(Vec<u8>, String); 6] {
     ]
 }
 
+/// Reals are written so that people can read them (02 §4); the written label is
+/// written as it is.
+fn reals() -> [(Vec<u8>, String); 2] {
+    let input = "A=(1.50,0.15e-1,-.5,-15.,0E9,1E-18,-15E-18,1E-19,15E-30,1E2) \
+        B={1E17,12E16,12E17,1E18,123456789012345678.,1234567890123456780.} C=1e3<m> END";
+    let written = "A = (1.5, 0.015, -0.5, -15.0, 0.0, 0.000000000000000001, \
+        -0.000000000000000015, 1.E-19, 15.E-30, 100.0)\r\n\
+        B = {100000000000000000.0, 120000000000000000.0, 12.E17, 1.E18, \
+        123456789012345678.0, 123456789012345678.E1}\r\nC = 1000.0 <M>\r\nEND\r\n";
+    [
+        (input.into(), written.to_string()),
+        (written.into(), written.to_string()),
+    ]
+}
+
 /// Tables and written labels of 65,535 bytes, and of 65,536.
-fn about_as_long_as_may_be() -> [(Vec<u8>, String); 4] {
+fn about_as_long_as_may_be() -> [(Vec<u8>, String); 6] {
     // 7 + 9 * 7,279 + 2 * 7 + 3 = 65,535 bytes of table.
     let written = "A = (".to_string() + &"1, ".repeat(7_278) + "1)\r\nA = {}\r\nA = {}\r\nEND\r\n";
     let over = label_of_table(7_276, 6);
     let refused = format!("REFUSED 11 {}\r\n", over.len());
     let text = "x".repeat(LONGEST - 13);
+    // 8 and 10,516 of text, 6 + 22 * 2,500 of reals, 5: 65,535 bytes.
+    let before = "x".repeat(10_516);
+    let reals = "0.000000000000000001, ".repeat(2_499) + "0.000000000000000001";
     [
         (label_of_table(7_279, 2), written),
         (over, refused),
@@ -181,6 +206,14 @@ fn about_as_long_as_may_be() -> [(Vec<u8>, String); 4] {
         ),
         (
             label_of_text(text.len() + 1),
+            "REFUSED 13 65535\r\n".to_string(),
+        ),
+        (
+            label_of_reals(before.len(), 2_500),
+            format!("A = \"{before}\"\r\nB = ({reals})\r\nEND\r\n"),
+        ),
+        (
+            label_of_reals(before.len() + 1, 2_500),
             "REFUSED 13 65535\r\n".to_string(),
         ),
     ]

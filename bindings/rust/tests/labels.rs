@@ -24,7 +24,7 @@ const CAMERA: &[u8] = b"object = cam /* rig 4 */ ignored\n start = 1990-158T15:2
     hold = 1.50 <sec**1>\nend_object\nEND\n";
 
 const CANONICAL: &[u8] = b"OBJECT = CAM\r\n  START = 1990-06-07T15:24:12Z\r\n  \
-    HOLD = 15.E-1 <SEC>\r\nEND_OBJECT = CAM\r\nEND\r\n";
+    HOLD = 1.5 <SEC>\r\nEND_OBJECT = CAM\r\nEND\r\n";
 
 #[test]
 fn rows_are_decoded() {
@@ -102,6 +102,31 @@ fn labels_are_written() {
 }
 
 #[test]
+fn reals_are_written_so_that_people_can_read_them() {
+    for (real, form) in [
+        ("1.50", "1.5"),
+        ("15E-3", "0.015"),
+        ("-.5", "-0.5"),
+        ("-15.", "-15.0"),
+        ("-0E5", "0.0"),
+        ("1E-18", "0.000000000000000001"),
+        ("-123456789012345678E-17", "-1.23456789012345678"),
+        ("1E-19", "1.E-19"),
+        ("15E-30", "15.E-30"),
+        ("1E17", "100000000000000000.0"),
+        ("12E16", "120000000000000000.0"),
+        ("12E17", "12.E17"),
+        ("1E18", "1.E18"),
+        ("-9999999999999999990.", "-999999999999999999.E1"),
+    ] {
+        let canonical = format!("A = {form} <SEC>\r\nEND\r\n").into_bytes();
+        let label = format!("A={real}<sec> END");
+        assert_eq!(odl::relabel(label.as_bytes()).unwrap(), canonical, "{real}");
+        assert_eq!(odl::relabel(&canonical).unwrap(), canonical, "{form}");
+    }
+}
+
+#[test]
 fn refusals_have_code_and_place() {
     assert_eq!(refusal(b""), (Code::EndsEarly, 0));
     assert_eq!(refusal(b"A=1990-366 END"), (Code::PastLimit, 2));
@@ -167,4 +192,23 @@ fn tables_from_elsewhere_are_judged() {
     assert_eq!(Label::with_table(b"1", proper.to_vec()), Err(error(0)));
     assert_eq!(odl::write(b"", &proper), Err(error(0)));
     assert_eq!(odl::name(b"", &proper, 0), b"");
+}
+
+#[test]
+fn reals_from_elsewhere_are_judged() {
+    let write = |number: i64, power: i16| {
+        let row = [&[11], &number.to_be_bytes()[..], &power.to_be_bytes()].concat();
+        odl::write(b"A", &[&[1, 0, 0, 0, 1], &row[..], &[99, 0, 0]].concat())
+    };
+    assert_eq!(
+        write(-15, -18).unwrap(),
+        b"A = -0.000000000000000015\r\nEND\r\n"
+    );
+    let error = Error {
+        code: Code::ImproperTable,
+        place: 5,
+    };
+    for (number, power) in [(10, 0), (0, 1), (1_000_000_000_000_000_001, 0), (1, 1_000)] {
+        assert_eq!(write(number, power), Err(error), "{number} {power}");
+    }
 }

@@ -2,20 +2,21 @@
 use Prim.Native.Nat.{ℕ, zero, suc, _+_, _-_, _*_, _/_, _%_, _^_, _≤_, _<_, min}
 use mathlib.Core.Path.{_≡_, refl, ap, sym, _∙_}
 use mathlib.Core.List.{List, [], _∷_, _++_}
-use native.Mathlib.Nat.{pow-suc, pow-succ', pow-le-pow-right, div-lt-iff-lt-mul, div-div-eq-div-mul, zero-add, suc-add, le-refl}
+use native.Mathlib.Nat.{pow-suc, pow-succ', div-lt-iff-lt-mul, div-div-eq-div-mul, le-refl}
 use native.Mathlib.Decide.{decLe}
 use native.Mathlib.Numerals.{add-one}
 use lib.Arith.{lt-of-le-ne}
 use native.Mathlib.Omega.{arith}
-use borrow.Author.Tests.{eq-eqb, ne-eqb, le-leb}
+use borrow.Author.Tests.{ne-eqb}
 use lib.Dec.{eqb}
 use lib.ListN.{length, set, take, drop, length-set, drop-of-length-le}
 use lib.Seq.{drop-cons, drop-set-lt, getD-set-same, take-all, take-append-le}
-use Rattle.rules.specs.Values.{each, significant}
+use Rattle.rules.specs.Values.{significant}
 use Rattle.rules.specs.Written.{wide, unpadded, digits}
 use Rattle.rules.proofs.Tables.Numbers.{pow-positive}
 use Rattle.rules.proofs.Tables.Tests.{and-false}
-use Rattle.rules.proofs.Written.PrintedNumbers.{wide-length, significant-whole}
+use Rattle.rules.proofs.Written.PrintedNumbers.{wide-length, last-digit, unpad, significant-whole}
+use Rattle.rules.proofs.Words.Worth.{zeros-behind}
 use Rattle.output.specs.Puts.{Puts}
 use Rattle.numerals.specs.Counts.{Counted, Trimmed}
 
@@ -72,13 +73,6 @@ wide-turn k n room out v i w h =
       value = rw (e, w .value) (div-ten n (k - i));
     }
 
-last-digit : (k n : ℕ) → wide (suc k) n ≡ wide k (n / 10) ++ ((48 + n % 10) ∷ [])
-unfolding wide
-last-digit zero n = let e : n / 10 ^ 0 ≡ n = omega arith in rw e
-last-digit (suc k) n =
-    let e : n / 10 ^ suc k ≡ n / 10 / 10 ^ k = ap (λ (i : ℕ). n / i) (pow-succ' 10 k) ∙ sym (div-div-eq-div-mul n 10 (10 ^ k)) in
-    rw e (ap (λ (l : List ℕ). (48 + n / 10 / 10 ^ k % 10) ∷ l) (last-digit k n))
-
 -- the first digits are those of the number without its last
 first-digits : (e j n : ℕ) → take e (wide (e + j) n) ≡ wide e (n / 10 ^ j)
 first-digits e zero n =
@@ -113,21 +107,6 @@ wide-end k n room out e v i h w z = (record { count = sym (wide-length k n); byt
         rw (a, c, drop-of-length-le room {i = length room} (le-refl _), drop-of-length-le room {i = k} (omega arith))
 
 -- ---- how many digits a number has
-
--- the zeros that begin a number
-top-zero : (k n : ℕ) → 1 ≤ k → n < 10 ^ k → unpadded (wide (suc k) n) ≡ unpadded (wide k n)
-unfolding wide unpadded
-top-zero k n o h =
-    let p : 0 < 10 ^ k = pow-positive 10 k (omega arith) in
-    let z : n / 10 ^ k < 1 = div-lt-iff-lt-mul p .1 (omega arith) in
-    let d : 48 + n / 10 ^ k % 10 ≡ 48 = omega arith in
-    rw (eq-eqb (48 + n / 10 ^ k % 10) 48 d, wide-length k n, le-leb 1 k o)
-
-unpad : (m k n : ℕ) → 1 ≤ k → n < 10 ^ k → unpadded (wide (m + k) n) ≡ unpadded (wide k n)
-unpad zero k n o h = ap (λ (i : ℕ). unpadded (wide i n)) (zero-add k)
-unpad (suc m) k n o h =
-    let g : 10 ^ k ≤ 10 ^ (m + k) = pow-le-pow-right (omega arith) (omega arith) in
-    ap (λ (i : ℕ). unpadded (wide i n)) (suc-add m k) ∙ top-zero (m + k) n (omega arith) (omega arith) ∙ unpad m k n o h
 
 -- a number's own digits, as a last or a first one is not 0
 top-not : (k n : ℕ) → (1 ≤ k → 1 ≤ n / 10 ^ k) → n / 10 ^ k < 10 → unpadded (wide (suc k) n) ≡ wide (suc k) n
@@ -170,14 +149,6 @@ count-end n v (suc k) c h =
 
 -- ---- decimals without the zeros that end them
 
-noughts-more : (s : List ℕ) → each (λ b. eqb b 48) (s ++ (48 ∷ [])) ≡ each (λ b. eqb b 48) s
-noughts-more [] = refl
-noughts-more (d ∷ s) = rw (noughts-more s)
-
-nought-off : (s : List ℕ) → significant (s ++ (48 ∷ [])) ≡ significant s
-nought-off [] = refl
-nought-off (d ∷ s) = rw (noughts-more s, nought-off s)
-
 pub record Trimming (n v k : ℕ) : Type 0 where
   pub most : k ≤ 9
   pub rest : significant (wide 9 n) ≡ significant (wide k v)
@@ -189,7 +160,7 @@ pub trim-turn : (n v k : ℕ) → Trimming n v k → 0 < k → v % 10 ≡ 0 → 
 trim-turn n v zero t h e = absurd (omega arith)
 trim-turn n v (suc k) t h e =
     let d : suc k - 1 ≡ k = omega arith in
-    record { most = omega (arith, t .most); rest = t .rest ∙ rw (d, last-digit k v, e) (nought-off (wide k (v / 10))) }
+    record { most = omega (arith, t .most); rest = t .rest ∙ rw (d, last-digit k v, e) (zeros-behind (wide k (v / 10)) (48 ∷ []) refl) }
 
 pub trim-end : (n v k : ℕ) → Trimming n v k → 0 < k → (v % 10 ≡ 0 → ⊥) → Trimmed n (record { size = k; value = v })
 trim-end n v zero t h e = absurd (omega arith)

@@ -1,36 +1,19 @@
--- Numbers, dates and times, by their signs and parts.
+-- Dates and times by their parts.
 use Prim.Native.Nat.{ℕ, zero, suc, _/_, _%_}
-use mathlib.Core.Bool.{Bool, true, false, cond}
-use mathlib.Core.Path.{_≡_, refl, ap, sym, _∙_}
+use mathlib.Core.Bool.{Bool, cond}
+use mathlib.Core.Path.{_≡_, refl, ap, _∙_}
 use mathlib.Core.List.{List, [], _∷_, _++_, append-assoc}
 use borrow.Author.Tests.{eq-eqb, ne-eqb}
-use lib.Dec.{eqb}
 use Rattle.words.specs.declared.Moment.{Moment}
 use Rattle.rules.specs.Values.{significant}
-use Rattle.rules.specs.Written.{wide, digits, decimal, dateBytes, fraction, zone, timeBytes, momentBytes}
+use Rattle.rules.specs.Written.{wide, dateBytes, fraction, zone, timeBytes, momentBytes}
 use Rattle.words.specs.Says.{whole, momentOf}
 use Rattle.output.specs.Puts.{Puts}
 use Rattle.output.proofs.Laws.{same-part, nothing}
-use Rattle.numerals.specs.Counts.{Counted, Trimmed}
+use Rattle.numerals.specs.Counts.{Trimmed}
 use Rattle.numerals.specs.declared.times.Fraction.{Fraction}
 
 module _ {room out : List ℕ} {r : ℕ} where
-  pub counted : {n k : ℕ} → Counted n k → Puts (wide k n) room out r → Puts (digits n) room out r
-  counted c p = same-part (sym (c .are)) p
-
-  pub minus : {m : Bool} (n : ℕ) → m ≡ true → Puts (45 ∷ digits n) room out r → Puts (decimal (whole m n)) room out r
-  minus n h p = rw h p
-
-  pub no-minus : {m : Bool} (n : ℕ) → m ≡ false → Puts (digits n) room out r → Puts (decimal (whole m n)) room out r
-  no-minus n h p = rw h p
-
-  -- a test of 0
-  pub is-zero : (n : ℕ) (a : ℕ) (x y : List ℕ) → n ≡ 0 → Puts (a ∷ x) room out r → Puts (a ∷ cond (eqb n 0) x y) room out r
-  is-zero n a x y h p = rw (eq-eqb n 0 h) p
-
-  pub not-zero : (n : ℕ) (a : ℕ) (x y : List ℕ) → (n ≡ 0 → ⊥) → Puts (a ∷ y) room out r → Puts (a ∷ cond (eqb n 0) x y) room out r
-  not-zero n a x y h p = rw (ne-eqb n 0 h) p
-
   -- the decimals of a second
   pub no-fraction : {f : Fraction} {n : ℕ} → Trimmed n f → f .size ≡ 0 → room ≡ out → r ≡ 0 → Puts (fraction (significant (wide 9 n))) room out r
   unfolding wide

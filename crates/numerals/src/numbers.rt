@@ -4,12 +4,8 @@ use output::put_byte;
 use output::put_bytes;
 use words::Real;
 ghost use mathlib.Core.Path.{_≡_};
-ghost use mathlib.Core.Bool.{cond};
-ghost use mathlib.Core.List.{[], _++_};
-ghost use Prim.Native.Nat.{_≤_, _/_, _^_};
-ghost use lib.Dec.{eqb};
-ghost use Rattle.rules.specs.Bytes.{ascii};
-ghost use Rattle.rules.specs.Written.{wide, digits, decimal, realBytes};
+ghost use Prim.Native.Nat.{_≤_, _+_, _/_, _^_};
+ghost use Rattle.rules.specs.Written.{wide, digits, minusOnly, decimal, plainBytes, fullBytes, scaledBytes, unsignedBytes, realBytes};
 ghost use Rattle.words.specs.Says.{whole, realOf};
 ghost use Rattle.output.specs.Puts.{Puts};
 ghost use Rattle.numerals.specs.Counts.{Counted};
@@ -61,36 +57,83 @@ fn put_digits(out: &mut [u8], n: u64) -> usize
     put_wide(out, k, n)
 }
 
+fn put_sign(out: &mut [u8], minus: bool) -> usize
+    ensures { λ r. ⌜ Puts (minusOnly minus) (now (out .entry)) (now (out .exit)) r × (r ≤ 1) ⌝ }
+{
+    if minus {
+        return put_byte(out, b'-');
+    }
+    0
+}
+
 pub fn put_decimal(out: &mut [u8], minus: bool, n: u64) -> usize
     ensures { λ r. ⌜ Puts (decimal (whole minus n)) (now (out .entry)) (now (out .exit)) r × (r ≤ 21) ⌝ }
 {
-    if minus {
-        let a = put_byte(out, b'-');
-        let k = least(a, out.len());
-        let m = put_digits(&mut out[k..], n);
-        return a + m;
-    }
-    put_digits(out, n)
+    let a = put_sign(out, minus);
+    let k = least(a, out.len());
+    let m = put_digits(&mut out[k..], n);
+    a + m
 }
 
-// The period of a real, and its power unless 0.
-fn put_power(out: &mut [u8], below: bool, n: u16) -> usize
-    ensures { λ r. ⌜ Puts (ascii "." ++ cond (eqb n 0) [] (ascii "E" ++ decimal (whole below n))) (now (out .entry)) (now (out .exit)) r × (r ≤ 23) ⌝ }
+// Plainly: as many digits behind the period as the power is below 0, and before it the others, or 0.
+fn put_plain(out: &mut [u8], n: u64, places: u16) -> usize
+    ensures { λ r. ⌜ Puts (plainBytes n places) (now (out .entry)) (now (out .exit)) r × (r ≤ 21 + places) ⌝ }
 {
-    if n == 0 {
-        return put_byte(out, b'.');
-    }
-    let a = put_bytes(out, b".E");
+    let v = without_last(n, places as usize);
+    let a = put_digits(out, v);
     let k = least(a, out.len());
-    let m = put_decimal(&mut out[k..], below, n as u64);
-    a + m
+    let b = a + put_byte(&mut out[k..], b'.');
+    let j = least(b, out.len());
+    let c = put_wide(&mut out[j..], places as usize, n);
+    b + c
+}
+
+// All digits, as many zeros as the power says, and `.0`.
+fn put_full(out: &mut [u8], n: u64, zeros: u16) -> usize
+    ensures { λ r. ⌜ Puts (fullBytes n zeros) (now (out .entry)) (now (out .exit)) r × (r ≤ 22 + zeros) ⌝ }
+{
+    let a = put_digits(out, n);
+    let k = least(a, out.len());
+    let b = a + put_wide(&mut out[k..], zeros as usize, 0);
+    let j = least(b, out.len());
+    let c = put_bytes(&mut out[j..], b".0");
+    b + c
+}
+
+// Number, period, `E` and power.
+fn put_scaled(out: &mut [u8], n: u64, below: bool, power: u16) -> usize
+    ensures { λ r. ⌜ Puts (scaledBytes n (whole below power)) (now (out .entry)) (now (out .exit)) r × (r ≤ 43) ⌝ }
+{
+    let a = put_digits(out, n);
+    let k = least(a, out.len());
+    let b = a + put_bytes(&mut out[k..], b".E");
+    let j = least(b, out.len());
+    let c = put_decimal(&mut out[j..], below, power as u64);
+    b + c
+}
+
+// A real behind its sign: which of the three it is.
+fn put_unsigned(out: &mut [u8], n: u64, below: bool, power: u16) -> usize
+    ensures { λ r. ⌜ Puts (unsignedBytes n (whole below power)) (now (out .entry)) (now (out .exit)) r × (r ≤ 43) ⌝ }
+{
+    if below {
+        if power <= 18 {
+            return put_plain(out, n, power);
+        }
+        return put_scaled(out, n, below, power);
+    }
+    let d = digit_count(n);
+    if d + power as usize <= 18 {
+        return put_full(out, n, power);
+    }
+    put_scaled(out, n, below, power)
 }
 
 pub fn put_real(out: &mut [u8], x: Real) -> usize
     ensures { λ r. ⌜ Puts (realBytes (realOf x)) (now (out .entry)) (now (out .exit)) r × (r ≤ 44) ⌝ }
 {
-    let a = put_decimal(out, x.minus, x.number);
+    let a = put_sign(out, x.minus);
     let k = least(a, out.len());
-    let m = put_power(&mut out[k..], x.below, x.power);
+    let m = put_unsigned(&mut out[k..], x.number, x.below, x.power);
     a + m
 }

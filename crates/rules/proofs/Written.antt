@@ -11,6 +11,8 @@ pub mod Writing
 pub mod Clean
 pub mod Spans
 pub mod PrintedNumbers
+pub mod PrintedReals
+pub mod Reals
 pub mod PrintedMoments
 pub mod Names
 pub mod WordBytes

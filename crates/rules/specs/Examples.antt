@@ -108,7 +108,7 @@ abbrev pub group-table : List ℕ
 group-table =
     5 ∷ 0 ∷ 6 ∷ 0 ∷ 7 ∷ 1 ∷ 0 ∷ 8 ∷ 0 ∷ 9 ∷ (integer-of 1 ++ (6 ∷ 1 ∷ 0 ∷ 22 ∷ 0 ∷ 23 ∷ (integer-of 2 ++ end-at 29)))
 
--- what no theorem pins, and document 02 §2, worked out by hand from the papers
+-- what no theorem pins, and document 02 §2 and §4, worked out by hand from the papers
 abbrev pub calls : List Call
 calls =
     -- a comment runs to its `*/`, and the rest of that line is ignored: the first END is no element
@@ -148,9 +148,12 @@ calls =
     ∷ reads (ascii "A=((1),2) END") (before 2) (says 6 7 0) (before 2)
     -- the writer puts `, ` between rows
     ∷ relabels (ascii "A=((1,2),(3,4)) END") (ascii "A = ((1, 2), (3, 4))\r\nEND\r\n")
-    -- the paper's example of relabel
+    -- document 02 §4: plainly where the power is -18 to -1, with all digits and `.0` up to 18 of them, zero as `0.0`, otherwise with `E`
+    ∷ relabels (ascii "A=(1.50,15E-3,-.5,1e-18,1e-19) B=(-15.,0.0E7,1e17,1e18) END")
+    (ascii "A = (1.5, 0.015, -0.5, 0.000000000000000001, 1.E-19)\r\nB = (-15.0, 0.0, 100000000000000000.0, 1.E18)\r\nEND\r\n")
+    -- the paper's example of relabel, its real as document 02 §4 writes it
     ∷ relabels (ascii "object = cam /* rig 4 */ ignored\n start = 1990-158T15:24:12\n hold = 1.50 <sec**1>\nend_object\nEND\n")
-    (ascii "OBJECT = CAM\r\n  START = 1990-06-07T15:24:12Z\r\n  HOLD = 15.E-1 <SEC>\r\nEND_OBJECT = CAM\r\nEND\r\n")
+    (ascii "OBJECT = CAM\r\n  START = 1990-06-07T15:24:12Z\r\n  HOLD = 1.5 <SEC>\r\nEND_OBJECT = CAM\r\nEND\r\n")
     ∷ []
 
 -- a label is read, and its table written into any room that is long enough

@@ -15,7 +15,7 @@ use Rattle.rules.specs.Meaning.{Sense}
 
 -- ---- numbers, dates and times
 
--- exactly so many digits: YYYY, MM, HH
+-- exactly so many digits, a number's last ones, with zeros before them if it has fewer: YYYY, MM, HH
 unfoldable pub wide : ℕ → ℕ → List ℕ
 wide zero n = []
 wide (suc k) n = (48 + n / 10 ^ k % 10) ∷ wide k n
@@ -29,13 +29,38 @@ unpadded (d ∷ ds) = cond (eqb d (byte "0") && leb 1 (length ds)) (unpadded ds)
 unfoldable pub digits : ℕ → List ℕ
 digits n = unpadded (wide 20 n)
 
+-- minus only: the sign of a number
+abbrev pub minusOnly : Bool → List ℕ
+minusOnly below = cond below (ascii "-") []
+
 -- Integers in decimal, minus only.
 abbrev pub decimal : Whole → List ℕ
-decimal w = cond (w .minus) (byte "-" ∷ digits (w .size)) (digits (w .size))
+decimal w = minusOnly (w .minus) ++ digits (w .size)
 
--- Reals: number, period, then `E` and power unless 0.
+-- Document 02 §4: Where the power is -18 to -1, write it plainly with at least one digit before the period: `1.5`, `0.015`.
+-- As many digits stand behind the period as the power is below 0.
+abbrev pub plainBytes : ℕ → ℕ → List ℕ
+plainBytes n places = digits (n / 10 ^ places) ++ (byte "." ∷ wide places n)
+
+-- Where the power is 0 or more and number and zeros come to at most 18 digits, write all digits and `.0`. Zero is `0.0`.
+-- `wide zeros 0` is that many zeros.
+abbrev pub fullBytes : ℕ → ℕ → List ℕ
+fullBytes n zeros = digits n ++ (wide zeros 0 ++ ascii ".0")
+
+-- Otherwise as before: number, period, then `E` and power. The power is not 0 here: a number has at most 18 digits.
+abbrev pub scaledBytes : ℕ → Whole → List ℕ
+scaledBytes n power = digits n ++ (ascii ".E" ++ decimal power)
+
+-- which of the three: by the power, and by the digits that number and zeros come to
+abbrev pub unsignedBytes : ℕ → Whole → List ℕ
+unsignedBytes n power =
+    cond (power .minus && leb (power .size) 18) (plainBytes n (power .size))
+    (cond (not (power .minus) && leb (length (digits n) + power .size) 18) (fullBytes n (power .size))
+    (scaledBytes n power))
+
+-- Reals: minus only, then the number and its power
 abbrev pub realBytes : Real → List ℕ
-realBytes x = decimal (x .number) ++ (byte "." ∷ cond (eqb (x .power .size) 0) [] (byte "E" ∷ decimal (x .power)))
+realBytes x = minusOnly (x .number .minus) ++ unsignedBytes (x .number .size) (x .power)
 
 -- Dates as YYYY-MM-DD,
 abbrev pub dateBytes : Moment → List ℕ

@@ -1,5 +1,5 @@
 -- Reals: the loop that passes trailing zeros, the limits, and the power with an exponent that is held to a cap.
-use Prim.Native.Nat.{ℕ, suc, _+_, _-_, _*_, _^_, _≤_, _<_, min}
+use Prim.Native.Nat.{ℕ, suc, _+_, _-_, _^_, _≤_, _<_, min}
 use mathlib.Core.Bool.{Bool, true, false, cond, not, _&&_}
 use mathlib.Core.Option.{none, some}
 use mathlib.Core.Path.{_≡_, refl, sym, ap, _∙_}
@@ -12,7 +12,7 @@ use lib.ListN.{length, getD, take, length-append}
 use lib.Seq.{take-all, take-suc, length-take-le}
 use Rattle.rules.specs.Data.{Whole}
 use Rattle.rules.specs.Values.{onto, number, signed, each, significant, moved, realKept, a-decimal}
-use Rattle.rules.proofs.Words.Worth.{nought, all-zeros}
+use Rattle.rules.proofs.Words.Worth.{nought, zeros-behind, digit-behind, onto-append, all-zeros}
 use Rattle.rules.proofs.Tables.Tests.{and-false}
 use Rattle.words.specs.declared.Value.{Value}
 use Rattle.words.specs.declared.Value.the-variants.{Float, Past}
@@ -25,26 +25,6 @@ and-yes true = refl
 and-yes false = refl
 
 -- ---- digits without the zeros that end them
-
-each-zeros : (a b : List ℕ) → each nought b ≡ true → each nought (a ++ b) ≡ each nought a
-each-zeros [] b h = h
-each-zeros (d ∷ a) b h = ap (λ (t : Bool). eqb d 48 && t) (each-zeros a b h)
-
-each-other : (a b : List ℕ) → each nought b ≡ false → each nought (a ++ b) ≡ false
-each-other [] b h = h
-each-other (d ∷ a) b h = rw (each-other a b h) (and-false (eqb d 48))
-
-zeros-alone : (b : List ℕ) → each nought b ≡ true → significant b ≡ []
-zeros-alone [] h = refl
-zeros-alone (d ∷ b) h = rw h
-
-zeros-behind : (a b : List ℕ) → each nought b ≡ true → significant (a ++ b) ≡ significant a
-zeros-behind [] b h = zeros-alone b h
-zeros-behind (d ∷ a) b h = rw (each-zeros a b h, zeros-behind a b h)
-
-digit-behind : (a b : List ℕ) → each nought b ≡ false → significant (a ++ b) ≡ a ++ significant b
-digit-behind [] b h = refl
-digit-behind (d ∷ a) b h = rw (each-other a b h, and-false (eqb d 48), digit-behind a b h)
 
 pub record Trimming (s : List ℕ) (j : ℕ) : Type 0 where
   pub within : j ≤ length s
@@ -185,7 +165,7 @@ not-zero fs i f e = go (each nought fs) refl
     go : (t : Bool) → each nought fs ≡ t → each nought fs ≡ false
     go false h = h
     go true h =
-        let l : length (take i fs) ≡ 0 = ap length (sym (f .is) ∙ zeros-alone fs h) in
+        let l : length (take i fs) ≡ 0 = ap length (sym (f .is) ∙ zeros-behind [] fs h) in
         absurd (e (sym (length-take-le i fs (f .within)) ∙ l))
 
 onto-capped : (cap n : ℕ) (s : List ℕ) → min cap (onto (min cap n) s) ≡ min cap (onto n s)
@@ -197,10 +177,6 @@ onto-capped cap n s = go (leb n cap) refl
         let l = leb-false n cap h in
         let q : min cap n ≡ cap = omega arith in
         rw q (omega (arith, grows cap s, grows n s))
-
-onto-append : (n : ℕ) (a b : List ℕ) → onto n (a ++ b) ≡ onto (onto n a) b
-onto-append n [] b = refl
-onto-append n (d ∷ a) b = onto-append (n * 10 + (d - 48)) a b
 
 module _ (neg : Bool) (ds fs : List ℕ) (below : Bool) (x : List ℕ) (i scale : ℕ) {r : Value} where
   answer : (s : List ℕ) (m up : ℕ) → significant (ds ++ fs) ≡ s → m ≡ min (10 ^ 18) (onto 0 s) → up ≡ length (ds ++ fs) - length s → scale ≡ min 1000000 (onto 0 x) → Scaled neg m below scale up (length fs) r → Worth (a-decimal neg ds fs (signed below (number x))) r

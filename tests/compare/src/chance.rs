@@ -2,7 +2,7 @@
 
 use crate::{Answer, Call, Case};
 use odl_model::random::{self, Random, TableCase};
-use odl_model::rows;
+use odl_model::{reals, rows};
 use std::collections::BTreeMap;
 use std::sync::atomic::{AtomicBool, AtomicU64, Ordering};
 use std::time::Instant;
@@ -15,6 +15,10 @@ pub struct Tally {
     /// Each case of the rule for rows, of labels that were read and of tables
     /// that were written.
     pub rows: BTreeMap<&'static str, u64>,
+    /// Each case of written reals, of tables that were handed to the writer and
+    /// of labels that were read and then written, and each case of a real that
+    /// the writer refused a table for.
+    pub reals: BTreeMap<(Call, &'static str), u64>,
 }
 
 /// The case of a table that is written with a comma between rows.
@@ -30,6 +34,9 @@ impl Tally {
         for name in row_cases(case, code) {
             *self.rows.entry(name).or_default() += 1;
         }
+        for name in real_cases(case, code) {
+            *self.reals.entry((case.call, name)).or_default() += 1;
+        }
     }
 
     fn add(&mut self, other: Tally) {
@@ -38,6 +45,9 @@ impl Tally {
         }
         for (key, count) in other.rows {
             *self.rows.entry(key).or_default() += count;
+        }
+        for (key, count) in other.reals {
+            *self.reals.entry(key).or_default() += count;
         }
     }
 }
@@ -52,6 +62,18 @@ fn row_cases(case: &Case, code: u8) -> Vec<&'static str> {
     }
 }
 
+fn real_cases(case: &Case, code: u8) -> Vec<&'static str> {
+    let label = &case.label;
+    match (case.call, code) {
+        (Call::Write, 0) => reals::cases(label, &case.table),
+        (Call::Rewrite, 0) => reals::cases(label, &random::table_of(label)),
+        (Call::Write, 12) => reals::improper_case(label, &case.table)
+            .into_iter()
+            .collect(),
+        _ => Vec::new(),
+    }
+}
+
 /// The case of this number in the run of this seed.
 pub fn case(seed: u64, number: u64) -> Case {
     let mut random = Random::new(
@@ -62,13 +84,14 @@ pub fn case(seed: u64, number: u64) -> Case {
     for _ in 0..4 {
         random.bits();
     }
-    let mut case = match random.below(20) {
+    let mut case = match random.below(22) {
         0..=7 => Case::read(&random::label(&mut random), 0),
         8 => at_the_written_limit(&mut random),
         9..=12 => over_table(&mut random, Call::Write),
         13..=15 => over_table(&mut random, Call::Text),
         16..=18 => over_table(&mut random, Call::Find),
-        _ => over_table(&mut random, Call::Name),
+        19 => over_table(&mut random, Call::Name),
+        _ => Case::over(Call::Rewrite, &rewritten_label(&mut random), &[]),
     };
     case.room = room(&mut random, case.room_needed());
     case
@@ -82,6 +105,15 @@ fn room(random: &mut Random, needed: usize) -> usize {
         3 => needed,
         4 => needed + 1,
         _ => needed + random.below(100),
+    }
+}
+
+/// A label of any sort, or one of reals, which may be canonical already.
+fn rewritten_label(random: &mut Random) -> Vec<u8> {
+    match random.below(6) {
+        0 => random::reals_label(random),
+        1 => odl_model::relabel(&random::reals_label(random)),
+        _ => random::label(random),
     }
 }
 
@@ -174,23 +206,33 @@ fn bytes(random: &mut Random, bound: usize) -> Vec<u8> {
         .collect()
 }
 
-/// A table of texts that comes to about 65,535 bytes when written.
+/// A table of texts and then reals that comes to about 65,535 bytes when
+/// written, or to so many more that it is too long within the reals.
 fn at_the_written_limit(random: &mut Random) -> Case {
     const LINE: usize = "A = \"\"\r\n".len();
-    const END: usize = "END\r\n".len();
+    let mut label = random::reals_label(random);
+    let reals = random::table_of(&label);
     let long = 200 + random.below(4_000);
-    let wanted = odl_model::LONGEST_LABEL - 2 + random.below(5);
-    let rest = wanted - END - LINE;
+    let more = random.pick(&[5, 5, 5, 80]);
+    let wanted = odl_model::LONGEST_LABEL - 2 + random.below(more);
+    let rest = wanted - odl_model::write(&label, &reals, &mut []).length - LINE;
     let lines = rest / (long + LINE);
     let short = rest % (long + LINE);
-    let mut label = vec![b'A'];
-    label.resize(1 + long + LINE, b'x');
+    let name = label.len() as u16;
+    label.push(b'A');
+    label.resize(label.len() + long + LINE, b'x');
     let mut table = Vec::new();
     for length in std::iter::repeat_n(long, lines).chain([short]) {
-        table.extend([1, 0, 0, 0, 1, 13, 0, 1]);
-        table.extend((1 + length as u16).to_be_bytes());
+        for (kind, start, end) in [
+            (1, name, name + 1),
+            (13, name + 1, name + 1 + length as u16),
+        ] {
+            table.push(kind);
+            table.extend(start.to_be_bytes());
+            table.extend(end.to_be_bytes());
+        }
     }
-    table.extend([99, 0, 0]);
+    table.extend(reals);
     Case::over(Call::Write, &label, &table)
 }
 

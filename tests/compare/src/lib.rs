@@ -9,6 +9,8 @@ use odl::raw;
 pub enum Call {
     Read,
     Write,
+    /// A reading, with ample room, and the writing of the table that it gave.
+    Rewrite,
     Text,
     Find,
     Name,
@@ -55,6 +57,13 @@ impl Case {
         let answer = match self.call {
             Call::Read => raw::read(label, room),
             Call::Write => raw::write(label, table, room),
+            Call::Rewrite => {
+                let mut table = ample_room(label);
+                match raw::read(label, &mut table) {
+                    read if read.code == 0 => raw::write(label, &table[..read.length], room),
+                    refused => refused,
+                }
+            }
             Call::Text => raw::text(label, table, self.row, room),
             Call::Find => {
                 let found = raw::find(label, table, &self.name, self.row);
@@ -73,6 +82,13 @@ impl Case {
         let answer = match self.call {
             Call::Read => odl_model::read(label, room),
             Call::Write => odl_model::write(label, table, room),
+            Call::Rewrite => {
+                let mut table = ample_room(label);
+                match odl_model::read(label, &mut table) {
+                    read if read.code == 0 => odl_model::write(label, &table[..read.length], room),
+                    refused => refused,
+                }
+            }
             Call::Text => odl_model::text(label, table, self.row, room),
             Call::Find => return odl_model::find(label, table, &self.name, self.row),
             Call::Name => {
@@ -86,7 +102,7 @@ impl Case {
     /// The room that the model says is needed.
     pub fn room_needed(&self) -> usize {
         match self.call {
-            Call::Read | Call::Write | Call::Text => self.model(&mut []).2,
+            Call::Read | Call::Write | Call::Rewrite | Call::Text => self.model(&mut []).2,
             Call::Find | Call::Name => 0,
         }
     }
@@ -111,7 +127,8 @@ impl Case {
         }
         // What the rules say of the room, whatever the model did with it.
         let written = match self.call {
-            Call::Read | Call::Write | Call::Text if library.0 == 0 => library.2,
+            Call::Find | Call::Name => 0,
+            _ if library.0 == 0 => library.2,
             _ => 0,
         };
         let touched = |&(at, &byte): &(usize, &u8)| at >= written && byte != pattern(at);
@@ -154,6 +171,11 @@ impl Case {
             table,
         )
     }
+}
+
+/// Room for the table of any label of this length.
+fn ample_room(label: &[u8]) -> Vec<u8> {
+    vec![0; 5 * label.len()]
 }
 
 /// What is shown of long inputs; `case` of the program gives them again.

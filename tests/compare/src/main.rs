@@ -43,6 +43,9 @@ fn run(minutes: u64, seed: u64) -> Result<(), String> {
     for (case, count) in &tally.rows {
         println!("{case}: {count}");
     }
+    for ((call, case), count) in &tally.reals {
+        println!("{call:?} {case}: {count}");
+    }
     println!("{} passed, 0 failed", tally.codes.values().sum::<u64>());
     Ok(())
 }

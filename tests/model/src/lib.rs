@@ -12,6 +12,7 @@ pub mod layout;
 mod lookup;
 mod meaning;
 pub mod random;
+pub mod reals;
 pub mod rows;
 mod statements;
 mod table;

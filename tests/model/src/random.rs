@@ -4,8 +4,10 @@
 //! are good ones with a few bytes changed, labels at a limit or just past it,
 //! labels with something much like a sequence of rows, or elements strung
 //! together without regard for grammar. Tables are those of good labels, whole
-//! or damaged, each with a row and a name to ask for.
+//! or damaged, or hold reals that come from no label, each with a row and a name
+//! to ask for.
 
+use crate::words::Real;
 use crate::{read, LONGEST_LABEL};
 
 /// The xorshift* generator: short, and good enough for tests.
@@ -46,11 +48,12 @@ impl Random {
 
 /// A label of any sort.
 pub fn label(random: &mut Random) -> Vec<u8> {
-    match random.below(21) {
+    match random.below(22) {
         0..=7 => good_label(random),
         8..=15 => damaged_label(random),
         16 | 17 => limit_label(random),
         18 => rows_label(random),
+        19 => reals_label(random),
         _ => strung_elements(random),
     }
 }
@@ -272,6 +275,16 @@ pub fn rows_label(random: &mut Random) -> Vec<u8> {
         true => maker.ended(),
         false => maker.broken_off(),
     }
+}
+
+/// A good label of reals, by themselves and in sequences, rows and sets.
+pub fn reals_label(random: &mut Random) -> Vec<u8> {
+    let count = 1 + random.below(5);
+    let mut maker = Maker::new(random);
+    for _ in 0..count {
+        maker.assignment(Maker::reals);
+    }
+    maker.ended()
 }
 
 /// Elements, gaps and faulty bytes in a row, without regard for grammar.
@@ -511,6 +524,24 @@ impl<'r> Maker<'r> {
         self.put(closing);
     }
 
+    /// Reals at a border, one by itself or some in a sequence, in rows or a set.
+    fn reals(&mut self) {
+        match self.random.below(5) {
+            0 => self.row_of_reals(),
+            1 => self.members("(", 1, Self::row_of_reals, ")"),
+            2 => self.members("{", 1, Self::bordering_number, "}"),
+            _ => self.bordering_number(),
+        }
+    }
+
+    fn row_of_reals(&mut self) {
+        self.members("(", 1, Self::bordering_number, ")");
+    }
+
+    fn bordering_number(&mut self) {
+        self.number(Self::bordering_word);
+    }
+
     /// A value, or part of one, in the signs of `rows_label`.
     fn shaped(&mut self, shape: &str) {
         for sign in shape.chars() {
@@ -586,6 +617,9 @@ impl<'r> Maker<'r> {
     }
 
     fn real(&mut self) -> String {
+        if self.random.one_in(6) {
+            return self.bordering_word();
+        }
         let sign = self.sign();
         let whole_count = self.random.below(10);
         let whole = self.digits(whole_count);
@@ -614,6 +648,38 @@ impl<'r> Maker<'r> {
             false => self.random.below(12),
         };
         format!("{mark}{sign}{size}")
+    }
+
+    /// One of the reals at a border, in any of its spellings.
+    fn bordering_word(&mut self) -> String {
+        let Real { number, power } = bordering_real(self.random);
+        let sign = match number {
+            ..=-1 => "-",
+            0 => self.sign(),
+            _ => self.random.pick(&["", "", "+"]),
+        };
+        let power = i64::from(power);
+        let exponent = match power.abs() < 40 && self.random.one_in(2) {
+            true => 0,
+            false => power - 20 + self.random.below(41) as i64,
+        };
+        let zeros = "0".repeat((power - exponent).max(0) as usize);
+        let places = (exponent - power).max(0) as usize;
+        let least = places + self.random.below(3);
+        let digits = format!("{}{zeros}", number.unsigned_abs());
+        let digits = format!("{digits:0>least$}");
+        let (whole, fraction) = digits.split_at(digits.len() - places);
+        let zeros = "0".repeat(self.random.below(3));
+        let ending = match exponent == 0 && self.random.one_in(2) {
+            true => String::new(),
+            false => format!("{}{exponent}", self.random.pick(&["E", "e"])),
+        };
+        // With no digits behind the period an exponent needs none.
+        let point = match fraction.is_empty() && zeros.is_empty() && !ending.is_empty() {
+            true => self.random.pick(&["", "."]),
+            false => ".",
+        };
+        format!("{sign}{whole}{point}{fraction}{zeros}{ending}")
     }
 
     fn units(&mut self) {
@@ -727,6 +793,73 @@ impl<'r> Maker<'r> {
     }
 }
 
+/// A real, mostly at a border of the forms that reals are written in (02 §4) or
+/// near one.
+fn bordering_real(random: &mut Random) -> Real {
+    if random.one_in(20) {
+        return Real {
+            number: 0,
+            power: 0,
+        };
+    }
+    let length = match random.one_in(2) {
+        true => random.pick(&[1, 2, 17, 18]),
+        false => 1 + random.below(18),
+    };
+    let (digits, near) = (length as i16, random.below(4) as i16);
+    let power = match random.below(8) {
+        0 => random.pick(&[-999, -998, 998, 999]),
+        1 => near - 20,
+        2 => near - 2,
+        // About as many places as digits.
+        3 => near - 2 - digits,
+        // Number and zeros of 17 to 20 digits.
+        4 | 5 => near + 17 - digits,
+        6 => random.below(19) as i16 - 18,
+        _ => random.below(1_999) as i16 - 999,
+    };
+    Real {
+        number: number_of(random, length),
+        power,
+    }
+}
+
+/// A number of so many digits, either side of zero, without a trailing zero.
+fn number_of(random: &mut Random, length: usize) -> i64 {
+    let inner = random.pick(&[Some(0), Some(9), None, None, None]);
+    let number = (0..length).fold(0, |number, at| {
+        let digit = inner.unwrap_or_else(|| random.below(10) as i64);
+        let least = i64::from(at == 0 || at + 1 == length);
+        number * 10 + digit.max(least)
+    });
+    match random.one_in(2) {
+        true => number,
+        false => -number,
+    }
+}
+
+/// A real that no proper table has, with one fault.
+fn improper_real(random: &mut Random) -> Real {
+    let length = 2 + random.below(17);
+    let number = number_of(random, length);
+    let power = random.below(1_999) as i16 - 999;
+    let (number, power) = match random.below(6) {
+        0 => (number / 10 * 10, power),
+        1 => (0, random.pick(&[-999, -1, 1, 18, 999])),
+        2 => (nineteen_digits(random), power),
+        3 => (number, 1_000),
+        4 => (number, -1_000),
+        _ => (number, random.pick(&[1_001, -1_001, i16::MAX, i16::MIN])),
+    };
+    Real { number, power }
+}
+
+fn nineteen_digits(random: &mut Random) -> i64 {
+    const LEAST: i64 = 1_000_000_000_000_000_001;
+    let any = LEAST + 10 * random.below(800_000_000) as i64 * 1_000_000_000;
+    random.pick(&[LEAST, -LEAST, any, -any, i64::MAX, i64::MIN])
+}
+
 /// A label, a table over it, and what to ask of them.
 #[derive(Debug, Clone)]
 pub struct TableCase {
@@ -737,8 +870,12 @@ pub struct TableCase {
     pub name: Vec<u8>,
 }
 
-/// A table of a good label, often damaged, with a row and a name to ask for.
+/// A table of a good label, often damaged, or one of reals, with a row and a name
+/// to ask for.
 pub fn table_case(random: &mut Random) -> TableCase {
+    if random.one_in(8) {
+        return reals_case(random);
+    }
     let mut label = good_label(random);
     // A longer label would only ever give the one answer.
     if label.len() > LONGEST_LABEL && !random.one_in(10) {
@@ -760,6 +897,56 @@ pub fn table_case(random: &mut Random) -> TableCase {
         table,
         row,
         name,
+    }
+}
+
+/// A table of reals over a label that has names for them and no more. Some have
+/// a real that no proper table has.
+fn reals_case(random: &mut Random) -> TableCase {
+    let label = b"Name".to_vec();
+    let mut table = Vec::new();
+    for _ in 0..1 + random.below(4) {
+        table.extend([1, 0, 0, 0, 1 + random.below(4) as u8]);
+        match random.below(6) {
+            0 => put_reals(random, &mut table, &[20], &[21]),
+            1 => {
+                put_reals(random, &mut table, &[20, 20], &[21]);
+                put_reals(random, &mut table, &[20], &[21, 21]);
+            }
+            2 => put_reals(random, &mut table, &[22], &[23]),
+            _ => put_real(random, &mut table),
+        }
+    }
+    table.extend([99, 0, 0]);
+    let row = some_row(random, &table);
+    let name = some_name(random, &label, &table);
+    TableCase {
+        label,
+        table,
+        row,
+        name,
+    }
+}
+
+fn put_reals(random: &mut Random, table: &mut Vec<u8>, opening: &[u8], closing: &[u8]) {
+    table.extend_from_slice(opening);
+    for _ in 0..1 + random.below(3) {
+        put_real(random, table);
+    }
+    table.extend_from_slice(closing);
+}
+
+/// The row of a real, at times with one of a unit after it.
+fn put_real(random: &mut Random, table: &mut Vec<u8>) {
+    let Real { number, power } = match random.one_in(16) {
+        true => improper_real(random),
+        false => bordering_real(random),
+    };
+    table.push(11);
+    table.extend(number.to_be_bytes());
+    table.extend(power.to_be_bytes());
+    if random.one_in(3) {
+        table.extend([15, 0, 0, 1, 0, 2, random.pick(&[1, 2, 255])]);
     }
 }
 

@@ -190,10 +190,22 @@ impl Writer<'_> {
     }
 }
 
+/// Where the power is -18 to -1, plainly with at least one digit before the
+/// period. Where it is 0 or more and number and zeros come to at most 18
+/// digits, all digits and `.0`; so zero is `0.0`. Otherwise number, period, `E`
+/// and power.
 fn real_text(real: Real) -> String {
+    let sign = if real.number < 0 { "-" } else { "" };
+    let digits = real.number.unsigned_abs().to_string();
+    let size = usize::from(real.power.unsigned_abs());
     match real.power {
-        0 => format!("{}.", real.number),
-        power => format!("{}.E{}", real.number, power),
+        -18..=-1 => {
+            let digits = format!("{digits:0>least$}", least = size + 1);
+            let (whole, places) = digits.split_at(digits.len() - size);
+            format!("{sign}{whole}.{places}")
+        }
+        0.. if digits.len() + size <= 18 => format!("{sign}{digits}{}.0", "0".repeat(size)),
+        power => format!("{sign}{digits}.E{power}"),
     }
 }
 

@@ -34,7 +34,7 @@ pub pow-positive : (B k : ℕ) → 0 < B → 0 < B ^ k
 pow-positive B zero h = rw pow-zero (omega arith)
 pow-positive B (suc k) h = rw pow-succ' (mul-pos h (pow-positive B k h))
 
-places-value : (B : ℕ) → 0 < B → (k a n : ℕ) → valueOnto B a (places B k n) ≡ a * B ^ k + n % B ^ k
+pub places-value : (B : ℕ) → 0 < B → (k a n : ℕ) → valueOnto B a (places B k n) ≡ a * B ^ k + n % B ^ k
 unfolding places valueOnto
 places-value B h zero a n = sym (rw (pow-zero, mul-one, mod-one) (omega arith))
 places-value B h (suc k) a n =

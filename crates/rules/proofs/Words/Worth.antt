@@ -2,11 +2,11 @@
 use Prim.Native.Nat.{ℕ, zero, suc, _+_, _-_, _*_, _^_, _%_, _≤_, _<_}
 use native.Mathlib.Omega.{arith}
 use native.Mathlib.Nat.{pow-zero, pow-succ', mul-assoc, mul-one, add-zero}
-use mathlib.Core.Bool.{Bool, true, false, cond, _&&_, true≢false}
+use mathlib.Core.Bool.{Bool, true, false, cond, _&&_, true≢false, and-false}
 use mathlib.Core.Logic.{_⊎_, inl, inr, _↔_}
 use mathlib.Core.Option.{none, some}
 use mathlib.Core.Path.{_≡_, refl, sym, ap, subst, _∙_}
-use mathlib.Core.List.{List, [], _∷_}
+use mathlib.Core.List.{List, [], _∷_, _++_}
 use borrow.Author.Tests.{eqb-true, eqb-false, leb-true, leb-false, le-leb, lt-leb}
 use lib.Dec.{leb, eqb}
 use lib.ListN.{length}
@@ -20,6 +20,31 @@ use Rattle.rules.proofs.Options.{none-some, some-same}
 
 abbrev pub nought : ℕ → Bool
 nought b = eqb b 48
+
+abbrev pub noughts : List ℕ → Bool
+noughts s = each nought s
+
+-- zeros behind digits are not significant; where something else is behind them, all of them are
+pub noughts-behind : (a z : List ℕ) → noughts z ≡ true → noughts (a ++ z) ≡ noughts a
+noughts-behind [] z h = h
+noughts-behind (d ∷ a) z h = ap (λ (t : Bool). eqb d 48 && t) (noughts-behind a z h)
+
+noughts-but : (a b : List ℕ) → noughts b ≡ false → noughts (a ++ b) ≡ false
+noughts-but [] b h = h
+noughts-but (d ∷ a) b h = rw (noughts-but a b h) (and-false (eqb d 48))
+
+pub zeros-behind : (a z : List ℕ) → noughts z ≡ true → significant (a ++ z) ≡ significant a
+zeros-behind [] [] h = refl
+zeros-behind [] (d ∷ z) h = rw h
+zeros-behind (d ∷ a) z h = rw (noughts-behind a z h, zeros-behind a z h)
+
+pub digit-behind : (a b : List ℕ) → noughts b ≡ false → significant (a ++ b) ≡ a ++ significant b
+digit-behind [] b h = refl
+digit-behind (d ∷ a) b h = rw (noughts-but a b h, and-false (eqb d 48), digit-behind a b h)
+
+pub onto-append : (n : ℕ) (a b : List ℕ) → onto n (a ++ b) ≡ onto (onto n a) b
+onto-append n [] b = refl
+onto-append n (d ∷ a) b = onto-append (n * 10 + (d - 48)) a b
 
 abbrev dropped : List ℕ → ℕ
 dropped ds = length ds - length (significant ds)

@@ -77,4 +77,5 @@ calls-hold =
     (refl and refl and refl and refl and refl and refl and refl and refl and refl and refl and refl and refl and refl and refl and refl and refl and refl and refl
     and refl and refl and refl and refl and refl
     and (record { rows = _; past = _; reading = refl; writing = refl; short = omega arith; short-after = omega arith })
+    and (record { rows = _; past = _; reading = refl; writing = refl; short = omega arith; short-after = omega arith })
     and (record { rows = _; past = _; reading = refl; writing = refl; short = omega arith; short-after = omega arith }) and no-more)

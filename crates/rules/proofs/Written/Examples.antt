@@ -5,7 +5,7 @@ use mathlib.Core.Path.{_≡_, refl}
 use mathlib.Core.Bool.{true, false}
 use mathlib.Core.List.{List, [], _∷_, _++_}
 use Rattle.rules.specs.Bytes.{ascii}
-use Rattle.rules.specs.Written.{isName, unpadded, digits, wide, indent, canonical}
+use Rattle.rules.specs.Written.{isName, unpadded, digits, wide, realBytes, indent, canonical}
 use Rattle.rules.specs.Data.{Whole, Moment, object, group, attribute, pointer, opened, closed, an-integer, a-real, a-moment, a-text, a-symbol, a-unit, sequence, sequence-end, set, set-end, last, first, times, divided}
 use Rattle.rules.specs.Meaning.{Sense, keep, breaks, join, reassemble}
 
@@ -27,11 +27,11 @@ infix 60 _writes_
 abbrev clock : ℕ → ℕ → ℕ → ℕ → Whole → Moment
 clock h i s n z = record { parts = 2; year = 0; month = 0; day = 0; hour = h; minute = i; second = s; nanoseconds = n; offset = z }
 
--- the paper's example
+-- the paper's example, its real as document 02 §4 writes it
 sample : (opened object (ascii "CAM") ∷ attribute (ascii "START")
     ∷ a-moment (record { parts = 3; year = 1990; month = 6; day = 7; hour = 15; minute = 24; second = 12; nanoseconds = 0; offset = plus 0 })
     ∷ attribute (ascii "HOLD") ∷ a-real (record { number = plus 15; power = minus 1 }) ∷ a-unit first (ascii "SEC") (plus 1) ∷ closed object ∷ [])
-    writes ("OBJECT = CAM" ∷ "  START = 1990-06-07T15:24:12Z" ∷ "  HOLD = 15.E-1 <SEC>" ∷ "END_OBJECT = CAM" ∷ [])
+    writes ("OBJECT = CAM" ∷ "  START = 1990-06-07T15:24:12Z" ∷ "  HOLD = 1.5 <SEC>" ∷ "END_OBJECT = CAM" ∷ [])
 unfolding unpadded digits wide indent
 sample = refl
 
@@ -55,10 +55,34 @@ members : (attribute (ascii "A") ∷ set ∷ a-symbol (ascii "END") ∷ an-integ
 unfolding unpadded digits wide indent isName
 members = refl
 
--- reals: number, period, power unless 0
-reals : (attribute (ascii "A") ∷ sequence ∷ a-real (record { number = plus 0; power = plus 0 }) ∷ a-real (record { number = minus 5; power = plus 10 }) ∷ a-real (record { number = plus 999999999999999999; power = minus 999 })
+-- this number with this power is written so, and so behind a minus
+abbrev both : ℕ → Whole → String → Type 0
+both n p w = (realBytes (record { number = plus n; power = p }) ≡ ascii w) × (realBytes (record { number = minus n; power = p }) ≡ ascii "-" ++ ascii w)
+
+-- powers of -18 to -1, and -19
+plain-reals : both 15 (minus 1) "1.5" × both 5 (minus 1) "0.5" × both 15 (minus 3) "0.015"
+    × both 1 (minus 18) "0.000000000000000001" × both 1 (minus 19) "1.E-19"
+    × both 123456789012345678 (minus 1) "12345678901234567.8" × both 123456789012345678 (minus 17) "1.23456789012345678"
+    × both 123456789012345678 (minus 18) "0.123456789012345678" × both 123456789012345678 (minus 19) "123456789012345678.E-19"
+unfolding unpadded digits wide
+plain-reals = ((refl, refl), (refl, refl), (refl, refl), (refl, refl), (refl, refl), (refl, refl), (refl, refl), (refl, refl), (refl, refl))
+
+-- powers of 0 and more: number and zeros of up to 18 digits, and of 19
+full-reals : both 15 (plus 0) "15.0" × both 1 (plus 17) "100000000000000000.0" × both 1 (plus 18) "1.E18"
+    × both 12 (plus 16) "120000000000000000.0" × both 12 (plus 17) "12.E17"
+    × both 999999999999999999 (plus 0) "999999999999999999.0" × both 999999999999999999 (plus 1) "999999999999999999.E1"
+unfolding unpadded digits wide
+full-reals = ((refl, refl), (refl, refl), (refl, refl), (refl, refl), (refl, refl), (refl, refl), (refl, refl))
+
+-- the furthest powers
+far-reals : both 999999999999999999 (minus 999) "999999999999999999.E-999" × both 9 (plus 999) "9.E999"
+unfolding unpadded digits wide
+far-reals = ((refl, refl), (refl, refl))
+
+-- reals with units, in a sequence
+reals : (attribute (ascii "A") ∷ sequence ∷ a-real (record { number = plus 0; power = plus 0 }) ∷ a-real (record { number = minus 15; power = minus 1 }) ∷ a-unit first (ascii "M") (plus 1)
     ∷ sequence-end ∷ [])
-    writes ("A = (0., -5.E10, 999999999999999999.E-999)" ∷ [])
+    writes ("A = (0.0, -1.5 <M>)" ∷ [])
 unfolding unpadded digits wide indent
 reals = refl
 

@@ -15,10 +15,10 @@ use Rattle.rules.specs.Proper.{theRules}
 use Rattle.rules.specs.Words.{DateWord, year-month-day, Seconds, second, decimal as decimal-second, ZoneMark, east, west, Zoned, utc-upper, by-minute, TimeWord, time, upper-T, date-word, time-word, date-time-word, Digits, Form}
 use Rattle.rules.specs.Values.{a-date, a-time, a-date-time, in-month, Zone, utc, Time, leap, monthLength, Day, dayOf, timeKept, noDay, noTime, at, number, signed, within, each, significant, then}
 use Rattle.rules.specs.Written.{wide, dateBytes, fraction, zone, timeBytes, momentBytes}
-use Rattle.rules.proofs.Words.Worth.{significant-worth}
+use Rattle.rules.proofs.Words.Worth.{noughts, significant-worth}
 use Rattle.rules.proofs.Machine.Limits.{Within, Dated, Timed, MomentHeld, date-alone, time-alone, date-and-time}
 use Rattle.rules.proofs.Tables.Tests.{cond-case, and-true, and-left, and-right, between-in}
-use Rattle.rules.proofs.Written.PrintedNumbers.{wide-number, wide-all, wide-length, signed-plain, noughts}
+use Rattle.rules.proofs.Written.PrintedNumbers.{wide-number, wide-all, wide-length, signed-plain}
 
 -- ---- dates
 

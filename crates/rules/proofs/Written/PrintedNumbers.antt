@@ -1,25 +1,23 @@
--- Integers and reals as they are written are words as they are read.
+-- Digits as they are written stand for their number, and integers as they are written are words as they are read.
 use Prim.Native.Nat.{ℕ, zero, suc, _+_, _-_, _*_, _/_, _%_, _^_, _≤_, _<_}
-use mathlib.Core.Path.{_≡_, refl, sym, ap, ap₂, _∙_, subst}
-use mathlib.Core.Option.{Option, some}
+use mathlib.Core.Path.{_≡_, refl, sym, ap, _∙_, subst}
 use mathlib.Core.Bool.{Bool, true, false, cond, not, _&&_, true≢false}
-use mathlib.Core.List.{List, [], _∷_, _++_, map, append-nil}
-use native.Mathlib.Decide.{ℕ-discrete}
-use native.Mathlib.Nat.{div-one, mod-lt, sub-self, pow-zero}
+use mathlib.Core.List.{List, [], _∷_, _++_, map}
+use native.Mathlib.Nat.{mod-lt, mod-eq-of-lt, pow-succ', pow-le-pow-right, div-le-self, div-lt-iff-lt-mul, div-div-eq-div-mul, zero-div, zero-mul, zero-add, suc-add, le-refl}
 use native.Mathlib.Omega.{arith}
-use borrow.Author.Tests.{lt-ltb, le-ltb, le-leb, eqb-true, ne-eqb}
+use borrow.Author.Tests.{lt-ltb, le-leb, eqb-true, eq-eqb, ne-eqb}
 use lib.Dec.{leb, eqb}
 use lib.ListN.{length, length-append}
 use Rattle.rules.specs.Bytes.{digit, All, none, one}
-use Rattle.rules.specs.Data.{Whole, Real, integer, real}
+use Rattle.rules.specs.Data.{Whole, integer}
 use Rattle.rules.specs.Proper.{theRules}
-use Rattle.rules.specs.Words.{unsigned, minus, Unsigned, Integer, signed-digits, upper, Scale, unscaled, scaled, Decimal, pointed, integer-word, real-word, Form}
-use Rattle.rules.specs.Values.{a-whole, a-decimal, onto, number, signed, within, each, significant, moved, held, realKept, then}
-use Rattle.rules.specs.Written.{unpadded, digits, wide, decimal, realBytes}
-use Rattle.rules.proofs.Tables.Numbers.{wide-places, places, valueOnto, places-back}
-use Rattle.rules.proofs.Machine.Limits.{Within, RealHeld}
+use Rattle.rules.specs.Words.{Sign, unsigned, minus, Unsigned, Integer, signed-digits, integer-word, Form}
+use Rattle.rules.specs.Values.{a-whole, onto, number, signed, within, significant}
+use Rattle.rules.specs.Written.{unpadded, digits, wide, minusOnly, decimal}
+use Rattle.rules.proofs.Tables.Numbers.{wide-places, places, valueOnto, pow-positive, places-value}
+use Rattle.rules.proofs.Machine.Limits.{Within}
 use Rattle.rules.proofs.Tables.Tests.{cond-case, and-left, and-false, between-in}
-use Rattle.rules.proofs.Words.Worth.{nought}
+use Rattle.rules.proofs.Words.Worth.{noughts, digit-behind}
 
 -- ---- digits
 
@@ -40,8 +38,12 @@ wide-onto a (d ∷ s) =
     let e : a * 10 + (48 + d - 48) ≡ a * 10 + d = omega arith in
     ap (λ (i : ℕ). onto i (map (λ d. 48 + d) s)) e ∙ wide-onto (a * 10 + d) s
 
+-- the last `k` digits of a number, behind those that gave `a`
+pub wide-value : (a k n : ℕ) → onto a (wide k n) ≡ a * 10 ^ k + n % 10 ^ k
+wide-value a k n = ap (onto a) (wide-places k n) ∙ wide-onto a (places 10 k n) ∙ places-value 10 (omega arith) k a n
+
 pub wide-number : (k n : ℕ) → n < 10 ^ k → number (wide k n) ≡ n
-wide-number k n h = ap number (wide-places k n) ∙ wide-onto 0 (places 10 k n) ∙ places-back 10 (omega arith) k n h
+wide-number k n h = wide-value 0 k n ∙ rw (zero-mul, zero-add, mod-eq-of-lt h)
 
 pub wide-all : (k n : ℕ) → All digit (wide k n)
 unfolding wide
@@ -74,16 +76,17 @@ unfolding unpadded
 unpadded-last x [] = ([], ap (λ (t : Bool). cond t (unpadded []) (x ∷ [])) (and-false (eqb x 48)))
 unpadded-last x (d ∷ f) = cond-case (EndsWith x) (eqb d 48 && leb 1 (length (f ++ (x ∷ [])))) _ _ (λ e. unpadded-last x f) (λ e. (d ∷ f, refl))
 
-wide-last : (k n : ℕ) → EndsWith (48 + n % 10) (wide (suc k) n)
+pub last-digit : (k n : ℕ) → wide (suc k) n ≡ wide k (n / 10) ++ ((48 + n % 10) ∷ [])
 unfolding wide
-wide-last zero n = ([], rw (pow-zero, div-one))
-wide-last (suc k) n = let r = wide-last k n in ((48 + n / 10 ^ suc k % 10) ∷ r .0, ap (λ (l : List ℕ). (48 + n / 10 ^ suc k % 10) ∷ l) (r .1))
+last-digit zero n = let e : n / 10 ^ 0 ≡ n = omega arith in rw e
+last-digit (suc k) n =
+    let e : n / 10 ^ suc k ≡ n / 10 / 10 ^ k = ap (λ (i : ℕ). n / i) (pow-succ' 10 k) ∙ sym (div-div-eq-div-mul n 10 (10 ^ k)) in
+    rw e (ap (λ (l : List ℕ). (48 + n / 10 / 10 ^ k % 10) ∷ l) (last-digit k n))
 
 pub printed : (n : ℕ) → n < 10 ^ 20 → Prints n (digits n)
 unfolding digits
 printed n h =
-    let w = wide-last 19 n in
-    let l : EndsWith (48 + n % 10) (unpadded (wide 20 n)) = subst (λ (s : List ℕ). EndsWith (48 + n % 10) (unpadded s)) (sym (w .1)) (unpadded-last (48 + n % 10) (w .0)) in
+    let l : EndsWith (48 + n % 10) (unpadded (wide 20 n)) = subst (λ (s : List ℕ). EndsWith (48 + n % 10) (unpadded s)) (sym (last-digit 19 n)) (unpadded-last (48 + n % 10) (wide 19 (n / 10))) in
     record { front = l .0; split = l .1; all = unpadded-all (wide 20 n) (wide-all 20 n); stands = unpadded-number (wide 20 n) ∙ wide-number 20 n h }
 
 pub some-digits : (n : ℕ) (s : List ℕ) → Prints n s → leb 1 (length s) ≡ true
@@ -92,96 +95,69 @@ some-digits n s p = le-leb 1 (length s) (rw (p .split) (simp length-append (omeg
 unsigned-digits : (n : ℕ) → n < 10 ^ 20 → Unsigned (digits n)
 unsigned-digits n h = record { all = printed n h .all; some = some-digits n (digits n) (printed n h) }
 
+-- ---- how many digits
+
+-- the zeros that begin a number
+top-zero : (k n : ℕ) → 1 ≤ k → n < 10 ^ k → unpadded (wide (suc k) n) ≡ unpadded (wide k n)
+unfolding wide unpadded
+top-zero k n o h =
+    let p : 0 < 10 ^ k = pow-positive 10 k (omega arith) in
+    let z : n / 10 ^ k < 1 = div-lt-iff-lt-mul p .1 (omega arith) in
+    let d : 48 + n / 10 ^ k % 10 ≡ 48 = omega arith in
+    rw (eq-eqb (48 + n / 10 ^ k % 10) 48 d, wide-length k n, le-leb 1 k o)
+
+pub unpad : (m k n : ℕ) → 1 ≤ k → n < 10 ^ k → unpadded (wide (m + k) n) ≡ unpadded (wide k n)
+unpad zero k n o h = ap (λ (i : ℕ). unpadded (wide i n)) (zero-add k)
+unpad (suc m) k n o h =
+    let g : 10 ^ k ≤ 10 ^ (m + k) = pow-le-pow-right (omega arith) (omega arith) in
+    ap (λ (i : ℕ). unpadded (wide i n)) (suc-add m k) ∙ top-zero (m + k) n (omega arith) (omega arith) ∙ unpad m k n o h
+
+unpadded-length : (s : List ℕ) → length (unpadded s) ≤ length s
+unfolding unpadded
+unpadded-length [] = le-refl 0
+unpadded-length (d ∷ s) = cond-case (λ l. length l ≤ suc (length s)) (eqb d 48 && leb 1 (length s)) (unpadded s) (d ∷ s) (λ e. omega (arith, unpadded-length s)) (λ e. le-refl _)
+
+-- a number below 10 ^ k has at most k digits
+pub few-digits : (k n : ℕ) → 1 ≤ k → k ≤ 20 → n < 10 ^ k → length (digits n) ≤ k
+unfolding digits
+few-digits k n o h b =
+    let s : 20 - k + k ≡ 20 = omega arith in
+    let e : digits n ≡ unpadded (wide k n) = ap (λ (i : ℕ). unpadded (wide i n)) (sym s) ∙ unpad (20 - k) k n o b in
+    rw e (omega (arith, unpadded-length (wide k n), wide-length k n))
+
+-- a number without its last digits has no more of them
+pub fewer : (n k : ℕ) → n < 10 ^ 20 → n / 10 ^ k < 10 ^ 20
+fewer n k h = omega (arith, h, div-le-self n (10 ^ k))
+
+-- ---- digits and zeros
+
+-- digits that end in no zero are all significant
+pub significant-whole : (a : List ℕ) (c : ℕ) → eqb c 48 ≡ false → significant (a ++ (c ∷ [])) ≡ a ++ (c ∷ [])
+significant-whole a c h = digit-behind a (c ∷ []) (rw h) ∙ rw h
+
+pub zeros-nought : (k : ℕ) → noughts (wide k 0) ≡ true
+unfolding wide
+zeros-nought zero = refl
+zeros-nought (suc k) = rw (zero-div, zeros-nought k)
+
 -- ---- integers
 
 pub signed-plain : (b : Bool) (n : ℕ) → (n ≡ 0 → b ≡ false) → signed b n ≡ record { minus = b; size = n }
 signed-plain false n h = refl
 signed-plain true n h = ap (λ (t : Bool). record { minus = t; size = n }) (ap not (ne-eqb n 0 (λ e. true≢false (h e))))
 
-integer-printed : (b : Bool) (n : ℕ) → n < 10 ^ 20 → Integer (cond b (45 ∷ digits n) (digits n)) (signed b n)
-integer-printed true n h = subst (λ (i : ℕ). Integer (45 ∷ digits n) (signed true i)) (printed n h .stands) (signed-digits minus (unsigned-digits n h))
-integer-printed false n h = subst (λ (i : ℕ). Integer (digits n) (signed false i)) (printed n h .stands) (signed-digits unsigned (unsigned-digits n h))
+-- a minus sign or none
+pub sign-printed : (b : Bool) → Sign (minusOnly b) b
+sign-printed true = minus
+sign-printed false = unsigned
 
-whole-printed : (w : Whole) (m : ℕ) → Within m w → m ≤ 10 ^ 20 → Integer (decimal w) w
+integer-printed : (b : Bool) (n : ℕ) → n < 10 ^ 20 → Integer (minusOnly b ++ digits n) (signed b n)
+integer-printed b n h = subst (λ (i : ℕ). Integer (minusOnly b ++ digits n) (signed b i)) (printed n h .stands) (signed-digits (sign-printed b) (unsigned-digits n h))
+
+pub whole-printed : (w : Whole) (m : ℕ) → Within m w → m ≤ 10 ^ 20 → Integer (decimal w) w
 whole-printed w m h k =
     subst (Integer (decimal w)) (signed-plain (w .minus) (w .size) (h .zero-plain)) (integer-printed (w .minus) (w .size) (omega (arith, h .below)))
 
 pub integer-form : (off : Bool) (w : Whole) → Within (2 ^ 63) w → Form theRules off (decimal w) (integer w)
 integer-form off w h =
     (a-whole w, integer-word (whole-printed w (2 ^ 63) h (omega arith)), ap (λ (t : Bool). within t (integer w)) (lt-ltb (w .size) (2 ^ 63) (h .below)))
-
--- ---- reals
-
-abbrev pub noughts : List ℕ → Bool
-noughts s = each nought s
-
-not-noughts : (a : List ℕ) (c : ℕ) → eqb c 48 ≡ false → noughts (a ++ (c ∷ [])) ≡ false
-not-noughts [] c h = rw h
-not-noughts (d ∷ a) c h = rw (not-noughts a c h) (and-false (eqb d 48))
-
--- digits that end in no zero are all significant
-pub significant-whole : (a : List ℕ) (c : ℕ) → eqb c 48 ≡ false → significant (a ++ (c ∷ [])) ≡ a ++ (c ∷ [])
-significant-whole [] c h = rw h
-significant-whole (d ∷ a) c h = rw (not-noughts a c h, and-false, significant-whole a c h)
-
-digits-significant : (n : ℕ) → n < 10 ^ 20 → (n % 10 ≡ 0 → ⊥) → significant (digits n) ≡ digits n
-digits-significant n h k =
-    let p = printed n h in
-    rw (p .split) (significant-whole (p .front) (48 + n % 10) (ne-eqb (48 + n % 10) 48 (λ e. k (omega (arith, e)))))
-
--- z + 0 - 0
-moved-not : (b : Bool) (n : ℕ) → (n ≡ 0 → b ≡ false) → moved (record { minus = b; size = n }) 0 0 ≡ record { minus = b; size = n }
-moved-not true zero h = absurd (true≢false (h refl))
-moved-not true (suc n) h =
-    rw (lt-ltb (0 + 0) (0 + suc n) (omega arith), ne-eqb (0 + 0 - (0 + suc n) + (0 + suc n - (0 + 0))) 0 (λ e. omega arith)) (ap (λ (i : ℕ). record { minus = true; size = i }) (omega arith))
-moved-not false n h = rw (le-ltb (0 + n) (0 + 0) (omega arith)) (ap (λ (i : ℕ). record { minus = false; size = i }) (omega arith))
-
-scale-printed : (p : Whole) → Within 1000 p → Scale (cond (eqb (p .size) 0) [] (69 ∷ decimal p)) p
-scale-printed p h = go (eqb (p .size) 0) refl
-  where
-    zeros : p .size ≡ 0 → _≡_ {A = Whole} (record { minus = false; size = 0 }) p
-    zeros e = ap₂ (λ (t : Bool) (i : ℕ). record { minus = t; size = i }) (sym (h .zero-plain e)) (sym e)
-
-    go : (t : Bool) → eqb (p .size) 0 ≡ t → Scale (cond t [] (69 ∷ decimal p)) p
-    go true e = subst (Scale []) (zeros (eqb-true (p .size) 0 e)) unscaled
-    go false e = scaled (upper (whole-printed p 1000 h (omega arith)))
-
-decimal-printed : (b : Bool) (n : ℕ) (x : List ℕ) (z : Whole) → n < 10 ^ 20 → Scale x z → Decimal (cond b (45 ∷ digits n) (digits n) ++ (46 ∷ x)) (a-decimal b (digits n) [] z)
-decimal-printed true n x z h s = pointed {fs = []} minus (printed n h .all) none (simp append-nil (some-digits n (digits n) (printed n h))) s
-decimal-printed false n x z h s = pointed {fs = []} unsigned (printed n h .all) none (simp append-nil (some-digits n (digits n) (printed n h))) s
-
-abbrev nil : Whole
-nil = record { minus = false; size = 0 }
-
-held-zero : (b : Bool) (z : Whole) → realKept (held b (digits 0) [] z) ≡ some (record { number = nil; power = nil })
-unfolding digits unpadded wide
-held-zero true z = refl
-held-zero false z = refl
-
-held-printed : (b : Bool) (n : ℕ) (z : Whole) → n < 10 ^ 20 → (n % 10 ≡ 0 → ⊥) → (z .size ≡ 0 → z .minus ≡ false) →
-    held b (digits n) [] z ≡ record { number = record { minus = b; size = n }; power = z }
-held-printed b n z h k l =
-    rw (append-nil (digits n), digits-significant n h k, printed n h .stands)
-    (ap₂ (λ (u v : Whole). record { number = u; power = v }) (signed-plain b n (λ e. absurd (k (rw e)))) (rw (sub-self (length (digits n))) (moved-not (z .minus) (z .size) l)))
-
-real-value : (x : Real) → RealHeld x → realKept (held (x .number .minus) (digits (x .number .size)) [] (x .power)) ≡ some x
-real-value x h = go (ℕ-discrete (x .number .size % 10) 0)
-  where
-    nought : (w : Whole) → w .size ≡ 0 → (w .size ≡ 0 → w .minus ≡ false) → w ≡ nil
-    nought w e f = ap₂ (λ (t : Bool) (i : ℕ). record { minus = t; size = i }) (f e) e
-
-    go : Dec (x .number .size % 10 ≡ 0) → realKept (held (x .number .minus) (digits (x .number .size)) [] (x .power)) ≡ some x
-    go (yes e) =
-        let z = h .no-trailing-zero e in
-        ap (λ (i : ℕ). realKept (held (x .number .minus) (digits i) [] (x .power))) (z .0) ∙ held-zero (x .number .minus) (x .power)
-        ∙ ap some (ap₂ (λ (u v : Whole). record { number = u; power = v }) (sym (nought (x .number) (z .0) (h .number .zero-plain))) (sym (nought (x .power) (z .1) (h .power .zero-plain))))
-    go (no k) =
-        ap realKept (held-printed (x .number .minus) (x .number .size) (x .power) (omega (arith, h .number .below)) k (h .power .zero-plain))
-        ∙ rw (ne-eqb (x .number .size) 0 (λ e. k (rw e)), lt-ltb (x .number .size) (10 ^ 18) (h .number .below), le-leb (x .power .size) 999 (omega (arith, h .power .below)))
-
-pub real-form : (off : Bool) (x : Real) → RealHeld x → Form theRules off (realBytes x) (real x)
-real-form off x h = (
-  a-decimal (x .number .minus) (digits (x .number .size)) [] (x .power),
-  real-word (decimal-printed (x .number .minus) (x .number .size) _ (x .power) (omega (arith, h .number .below)) (scale-printed (x .power) (h .power))),
-  ap (λ (o : Option Real). then o (λ y. some (real y))) (real-value x h),
-)

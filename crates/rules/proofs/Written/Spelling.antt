@@ -29,7 +29,8 @@ use Rattle.rules.proofs.Written.Names.{name-form, open-form, close-form
 use Rattle.rules.proofs.Words.Runs.{all-run}
 use Rattle.rules.proofs.Machine.Checks.{textByte, symbolByte, isText, isSymbol}
 use Rattle.rules.proofs.Tables.Contents.{passes-all, name-bytes, Begun, begun, name-begun}
-use Rattle.rules.proofs.Written.PrintedNumbers.{integer-form, real-form}
+use Rattle.rules.proofs.Written.PrintedNumbers.{integer-form}
+use Rattle.rules.proofs.Written.PrintedReals.{real-form}
 use Rattle.rules.proofs.Written.PrintedMoments.{moment-form}
 use Rattle.rules.proofs.Written.WordBytes.{decimal-wordy, real-wordy, moment-wordy}
 

@@ -1,20 +1,20 @@
 -- Numbers, dates and times are written in word bytes.
-use Prim.Native.Nat.{ℕ, suc, _/_, _%_, _^_, _<_}
+use Prim.Native.Nat.{ℕ, suc, _+_, _/_, _%_, _^_, _<_}
 use mathlib.Core.Path.{_≡_, refl}
-use mathlib.Core.Bool.{Bool, true, false, cond, false≢true}
+use mathlib.Core.Bool.{Bool, true, false, cond, not, _&&_, false≢true}
 use mathlib.Core.List.{List, [], _∷_, _++_}
 use native.Mathlib.Omega.{arith}
 use borrow.Author.Tests.{le-leb}
 use lib.Dec.{leb, eqb}
 use lib.ListN.{length}
 use Rattle.rules.specs.Values.{significant}
-use Rattle.rules.specs.Written.{digits, wide, decimal, realBytes, dateBytes, fraction, zone, timeBytes, momentBytes}
+use Rattle.rules.specs.Written.{digits, wide, minusOnly, decimal, plainBytes, fullBytes, scaledBytes, realBytes, dateBytes, fraction, zone, timeBytes, momentBytes}
 use Rattle.rules.specs.Bytes.{digit, letter, wordByte, All, none, one}
 use Rattle.rules.specs.Data.{Whole, Real, Moment}
 use Rattle.rules.proofs.Tables.Tests.{all-append, or-second, cond-case}
 use Rattle.rules.proofs.Machine.Limits.{RealHeld}
 use Rattle.rules.proofs.Tables.Contents.{alnum-word}
-use Rattle.rules.proofs.Written.PrintedNumbers.{printed, some-digits, wide-all, wide-length}
+use Rattle.rules.proofs.Written.PrintedNumbers.{fewer, printed, some-digits, wide-all, wide-length}
 use Rattle.rules.proofs.Written.PrintedMoments.{significant-all}
 
 digit-word : (b : ℕ) → digit b ≡ true → wordByte b ≡ true
@@ -39,17 +39,25 @@ wordy-more (b ∷ s) t w k = record { letters = all-append (w .letters) k; some 
 digits-wordy : (n : ℕ) → n < 10 ^ 20 → Wordy (digits n)
 digits-wordy n h = record { letters = all-word (printed n h .all); some = some-digits n (digits n) (printed n h) }
 
+wide-word : (k n : ℕ) → All wordByte (wide k n)
+wide-word k n = all-word (wide-all k n)
+
+sign-wordy : (b : Bool) {s : List ℕ} → Wordy s → Wordy (minusOnly b ++ s)
+sign-wordy true {s} h = wordy-cons 45 s refl (h .letters)
+sign-wordy false h = h
+
 pub decimal-wordy : (w : Whole) → w .size < 10 ^ 20 → Wordy (decimal w)
-decimal-wordy w h =
-    cond-case Wordy (w .minus) _ _ (λ e. wordy-cons 45 (digits (w .size)) refl (digits-wordy (w .size) h .letters)) (λ e. digits-wordy (w .size) h)
+decimal-wordy w h = sign-wordy (w .minus) (digits-wordy (w .size) h)
 
 pub real-wordy : (x : Real) → RealHeld x → Wordy (realBytes x)
 real-wordy x h =
-    wordy-more (decimal (x .number)) _ (decimal-wordy (x .number) (omega (arith, h .number .below)))
-    (one refl (cond-case (All wordByte) (eqb (x .power .size) 0) _ _ (λ e. none) (λ e. one refl (decimal-wordy (x .power) (omega (arith, h .power .below)) .letters))))
-
-wide-word : (k n : ℕ) → All wordByte (wide k n)
-wide-word k n = all-word (wide-all k n)
+    let n : ℕ = x .number .size in
+    let few : n < 10 ^ 20 = omega (arith, h .number .below) in
+    let k : ℕ = x .power .size in
+    let plain : Wordy (plainBytes n k) = wordy-more (digits (n / 10 ^ k)) _ (digits-wordy (n / 10 ^ k) (fewer n k few)) (one refl (wide-word k n)) in
+    let full : Wordy (fullBytes n k) = wordy-more (digits n) _ (digits-wordy n few) (all-append (wide-word k 0) (one refl (one refl none))) in
+    let scaled : Wordy (scaledBytes n (x .power)) = wordy-more (digits n) _ (digits-wordy n few) (one refl (one refl (decimal-wordy (x .power) (omega (arith, h .power .below)) .letters))) in
+    sign-wordy (x .number .minus) (cond-case Wordy (x .power .minus && leb k 18) _ _ (λ e. plain) (λ e. cond-case Wordy (not (x .power .minus) && leb (length (digits n) + k) 18) _ _ (λ f. full) (λ f. scaled)))
 
 wide-wordy : (k n : ℕ) → Wordy (wide (suc k) n)
 wide-wordy k n = record { letters = wide-word (suc k) n; some = le-leb 1 (length (wide (suc k) n)) (omega (arith, wide-length (suc k) n)) }

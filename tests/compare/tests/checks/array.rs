@@ -8,12 +8,14 @@ use odl_model::random::{self, Random};
 const ARRAY: usize = 16_384;
 
 /// Statements, each with the length of its rows.
-const STATEMENTS: [(&str, usize); 5] = [
+const STATEMENTS: [(&str, usize); 7] = [
     ("A=12\n", 5 + 9),
     ("A=B\n", 5 + 5),
     ("A={}\n", 5 + 2),
     ("A=2026-11-15T08:00+01:00\n", 5 + 15),
     ("A=((B),(C))\n", 5 + 2 + 2 * 7),
+    ("A=-1.5E-17\n", 5 + 11),
+    ("A=15E9\n", 5 + 11),
 ];
 
 /// The row of END.
@@ -53,20 +55,32 @@ fn tables_about_as_long_as_the_array_agree() {
     }
 }
 
+/// Whether the array is full in the midst of a real of this longer label.
+fn parts_a_real(written: &[u8]) -> bool {
+    ["-0.000000000000000015", "15000000000.0"]
+        .iter()
+        .flat_map(|form| (1..form.len()).map(move |before| (form, ARRAY - before)))
+        .any(|(form, at)| written[at..].starts_with(form.as_bytes()))
+}
+
 #[test]
 fn labels_written_about_as_long_as_the_array_agree() {
     let mut lengths = std::collections::BTreeSet::new();
-    for table in (ARRAY..ARRAY + 4_000).step_by(13) {
+    let mut parted = 0;
+    for table in (ARRAY - 3_000..ARRAY + 1_000).step_by(13) {
         let label = label_for(table, table);
         let table = random::table_of(&label);
         let case = Case::over(Call::Write, &label, &table);
         lengths.insert(case.room_needed().abs_diff(ARRAY) / 100);
+        let written = odl_model::relabel(&label);
+        parted += usize::from(written.len() > ARRAY && parts_a_real(&written));
         case.check_rooms().unwrap_or_else(|text| panic!("{text}"));
     }
     assert!(
         lengths.contains(&0),
         "no label was about as long: {lengths:?}"
     );
+    assert!(parted > 20, "the array was full in {parted} reals");
 }
 
 #[test]

@@ -5,16 +5,17 @@ use compare::chance::{self, Tally, Until, ROWS_WRITTEN};
 use compare::Call;
 use odl::Row;
 use odl_model::random::Random;
-use odl_model::rows;
+use odl_model::{reals, rows};
 use std::io::Write;
 
 const CASES: u64 = 150_000;
 
-/// Every case of the rule for rows must come up more often than this.
-const ROWS: u64 = 20;
+/// Every case of the rule for rows, and of written reals, must come up more
+/// often than this.
+const LEAST: u64 = 20;
 
 #[test]
-fn random_cases_agree_and_reach_every_code_and_case_of_rows() {
+fn random_cases_agree_and_reach_every_code_and_case_of_rows_and_reals() {
     let seed = seed();
     // Past the test's capture, so that it is seen even if the library crashes.
     let _ = writeln!(std::io::stderr(), "random cases with seed {seed}");
@@ -23,15 +24,28 @@ fn random_cases_agree_and_reach_every_code_and_case_of_rows() {
     check_codes(&tally);
     for case in rows::names().chain([ROWS_WRITTEN]) {
         let count = tally.rows.get(case).copied().unwrap_or(0);
-        assert!(count > ROWS, "{case}: {count}");
+        assert!(count > LEAST, "{case}: {count}");
+    }
+    check_reals(&tally);
+}
+
+/// Reals of tables and of labels were written in every case, and tables were
+/// refused for a real in every case.
+fn check_reals(tally: &Tally) {
+    let of_tables = reals::names().chain(reals::improper_names());
+    let cases = of_tables.map(|case| (Call::Write, case));
+    for case in cases.chain(reals::names().map(|case| (Call::Rewrite, case))) {
+        let count = tally.reals.get(&case).copied().unwrap_or(0);
+        assert!(count > LEAST, "{case:?}: {count}");
     }
 }
 
 /// Every call answered with every code that it has.
 fn check_codes(tally: &Tally) {
-    let expected: [(Call, &[u8]); 5] = [
+    let expected: [(Call, &[u8]); 6] = [
         (Call::Read, &[0, 1, 2, 3, 4, 5, 6, 7, 8, 9, 10, 11]),
         (Call::Write, &[0, 1, 11, 12, 13]),
+        (Call::Rewrite, &[0, 1, 2, 3, 4, 5, 6, 7, 8, 9, 10, 11, 13]),
         (Call::Text, &[0, 1, 11, 12, 15]),
         (Call::Find, &[0, 1, 12, 14, 15]),
         (Call::Name, &[0, 15]),

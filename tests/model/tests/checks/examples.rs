@@ -86,7 +86,7 @@ fn relabel_example() {
     let input = "object = cam /* rig 4 */ ignored\n start = 1990-158T15:24:12\n \
                  hold = 1.50 <sec**1>\nend_object\nEND\n";
     let output = "OBJECT = CAM\r\n  START = 1990-06-07T15:24:12Z\r\n  \
-                  HOLD = 15.E-1 <SEC>\r\nEND_OBJECT = CAM\r\nEND\r\n";
+                  HOLD = 1.5 <SEC>\r\nEND_OBJECT = CAM\r\nEND\r\n";
     assert_eq!(relabel(input.as_bytes()), output.as_bytes());
     assert_eq!(relabel(output.as_bytes()), output.as_bytes());
 }
@@ -205,10 +205,10 @@ fn written_label_has_every_form() {
     let label = b"a=1 ^b=(1,-2.0) c=((x,'y z'),(3)) d={} e={t,\"T\n u\"} \
         object=o group=g f=16#-ff# <m*s**-2/kg**1> end_group end_object \
         h=(0.0, -5e3, 12:0, 0001-1-2, 1999-365t1:2:3.040-0:5, 9:9+12:59) END";
-    let written = "A = 1\r\n^B = (1, -2.)\r\nC = ((X, 'Y Z'), (3))\r\nD = {}\r\n\
+    let written = "A = 1\r\n^B = (1, -2.0)\r\nC = ((X, 'Y Z'), (3))\r\nD = {}\r\n\
         E = {T, \"T u\"}\r\nOBJECT = O\r\n  GROUP = G\r\n    F = -255 <M*S**-2/KG>\r\n  \
         END_GROUP = G\r\nEND_OBJECT = O\r\n\
-        H = (0., -5.E3, 12:00:00Z, 0001-01-02, 1999-12-31T01:02:03.04-00:05, \
+        H = (0.0, -5000.0, 12:00:00Z, 0001-01-02, 1999-12-31T01:02:03.04-00:05, \
         09:09:00+12:59)\r\nEND\r\n";
     assert_eq!(
         String::from_utf8(relabel(label)).unwrap(),

@@ -5,6 +5,7 @@ mod examples;
 mod layout;
 mod meaning;
 mod properties;
+mod reals;
 mod rows;
 mod rulings;
 mod support;

@@ -615,7 +615,7 @@ fn symbols_are_folded() {
 
 #[test]
 fn powers_have_no_plus() {
-    assert_eq!(relabel(b"A=1e+5 END"), b"A = 1.E5\r\nEND\r\n");
+    assert_eq!(relabel(b"A=1e+25 END"), b"A = 1.E25\r\nEND\r\n");
 }
 
 /// A label whose written form has `length` bytes, and its table. Every row

@@ -3,7 +3,7 @@ use borrow.Author.Needs.{needs}
 use Rattle.numerals.proofs.numbers.put_digits.Statement.{statement}
 use Rattle.numerals.proofs.numbers.put_digits.Tie as tie
 use native.Mathlib.Omega.{arith}
-use Rattle.numerals.proofs.Moments.{counted}
+use Rattle.numerals.proofs.RealForms.{counted}
 
 returns : tie.Need-returns
 returns c = (counted (c .before .before .before .before .digit-count .ensures) (c .before .before .put-wide .ensures .0), omega arith)

@@ -6,7 +6,7 @@ use Rattle.output.proofs.Laws.{onward}
 use native.Mathlib.Omega.{arith}
 
 returns : tie.Need-returns
-returns c = ((onward (c .before .before .before .before .before .before .before .put-decimal .ensures .0) (c .before .before .before .before .least .ensures) (c .before .before .put-power .ensures .0)), omega arith)
+returns c = (onward (c .before .before .before .before .before .before .before .put-sign .ensures .0) (c .before .before .before .before .least .ensures) (c .before .before .put-unsigned .ensures .0), omega arith)
 
 pub put-real-spec : {M : Type 1} → statement M
 put-real-spec =
