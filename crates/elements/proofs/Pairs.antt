@@ -1,6 +1,6 @@
 -- Two bytes at a place, of which the second may lie past the end.
 use Prim.Native.Nat.{ℕ, _+_, _≤_}
-use mathlib.Core.Bool.{false, _&&_}
+use mathlib.Core.Bool.{false, _&&_, and-false}
 use mathlib.Core.Path.{_≡_, refl, _∙_}
 use mathlib.Core.List.{List, [], _∷_}
 use native.Mathlib.Nat.{add-zero}
@@ -11,7 +11,6 @@ use lib.ListN.{length, getD, drop}
 use lib.Seq.{getD-drop}
 use Rattle.rules.specs.Bytes.{pair}
 use Rattle.classes.specs.Places.{part}
-use Rattle.rules.proofs.Tables.Tests.{and-false}
 use Rattle.classes.proofs.Runs.{unroll}
 use Rattle.classes.proofs.Parts.{part-cons}
 

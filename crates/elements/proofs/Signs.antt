@@ -1,6 +1,6 @@
 -- Signs at a place, and what a byte begins, in the rules' terms.
 use Prim.Native.Nat.{ℕ, _+_, _≤_, _<_}
-use mathlib.Core.Bool.{Bool, false}
+use mathlib.Core.Bool.{Bool, false, and-false}
 use mathlib.Core.Option.{some}
 use mathlib.Core.Path.{_≡_, refl, sym, ap, subst, _∙_}
 use mathlib.Core.List.{List, [], _∷_}
@@ -12,7 +12,6 @@ use Rattle.rules.specs.Bytes.{wordByte, pair}
 use Rattle.rules.specs.Data.{the, power}
 use Rattle.rules.specs.Modes.{base}
 use Rattle.rules.specs.Elements.{isBlank, signOf, Spells, sign, one-star, two-stars, one-slash, no-element}
-use Rattle.rules.proofs.Tables.Tests.{and-false}
 use Rattle.classes.specs.Places.{part, ByteAt, HasByte}
 use Rattle.elements.specs.Places.{Clear, MarkOf, m-sign, m-star, m-slash, m-quote, m-apostrophe, m-nothing}
 use Rattle.words.specs.declared.Fixed.{Fixed}

@@ -1,6 +1,7 @@
 -- Digits of a number, from the last one on: k of them, how many there are, and those of a fraction.
 use Prim.Native.Nat.{ℕ, zero, suc, _+_, _-_, _*_, _/_, _%_, _^_, _≤_, _<_, min}
 use mathlib.Core.Path.{_≡_, refl, ap, sym, _∙_}
+use mathlib.Core.Bool.{and-false}
 use mathlib.Core.List.{List, [], _∷_, _++_}
 use native.Mathlib.Nat.{pow-suc, pow-succ', div-lt-iff-lt-mul, div-div-eq-div-mul, le-refl}
 use native.Mathlib.Decide.{decLe}
@@ -14,8 +15,7 @@ use lib.Seq.{drop-cons, drop-set-lt, getD-set-same, take-all, take-append-le}
 use Rattle.rules.specs.Values.{significant}
 use Rattle.rules.specs.Written.{wide, unpadded, digits}
 use Rattle.rules.proofs.Tables.Numbers.{pow-positive}
-use Rattle.rules.proofs.Tables.Tests.{and-false}
-use Rattle.rules.proofs.Written.PrintedNumbers.{wide-length, last-digit, unpad, significant-whole}
+use Rattle.rules.proofs.Written.PrintedNumbers.{wide-length, tenth, last-digit, unpad, significant-whole}
 use Rattle.rules.proofs.Words.Worth.{zeros-behind}
 use Rattle.output.specs.Puts.{Puts}
 use Rattle.numerals.specs.Counts.{Counted, Trimmed}
@@ -81,9 +81,8 @@ first-digits e zero n =
     rw (a, b) (take-all e (wide e n) (rw (wide-length e n) (le-refl e)))
 first-digits e (suc j) n =
     let a : e + suc j ≡ suc (e + j) = omega arith in
-    let b : n / 10 ^ suc j ≡ n / 10 / 10 ^ j = ap (λ (i : ℕ). n / i) (pow-succ' 10 j) ∙ sym (div-div-eq-div-mul n 10 (10 ^ j)) in
     let c : e ≤ length (wide (e + j) (n / 10)) = rw (wide-length (e + j) (n / 10)) (omega arith) in
-    rw (a, b, last-digit, take-append-le e (wide (e + j) (n / 10)) ((48 + n % 10) ∷ []) c) (first-digits e j (n / 10))
+    rw (a, tenth n j, last-digit, take-append-le e (wide (e + j) (n / 10)) ((48 + n % 10) ∷ []) c) (first-digits e j (n / 10))
 
 pub wide-end : (k n : ℕ) (room out : List ℕ) (e v i : ℕ) → e ≡ min k (length room) → Wide e (n / 10 ^ (k - e)) room out v i → i ≤ 0 → Puts (wide k n) room out k × (k ≡ k)
 wide-end k n room out e v i h w z = (record { count = sym (wide-length k n); bytes = stands ∙ rw (wide-length k n) (go (decLe k (length room))) }, refl)

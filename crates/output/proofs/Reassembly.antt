@@ -1,6 +1,6 @@
 -- A text reassembled byte by byte: what each byte leaves, and where a run holds a line end.
 use Prim.Native.Nat.{ℕ, _+_, _-_, _≤_, _<_, min}
-use mathlib.Core.Bool.{Bool, true, false, true≢false, cond, not, _&&_, _||_}
+use mathlib.Core.Bool.{Bool, true, false, true≢false, cond, not, _&&_, _||_, and-false}
 use mathlib.Core.Path.{_≡_, refl, ap, sym, _∙_, subst}
 use mathlib.Core.List.{List, [], _∷_, _++_, append-assoc, append-nil}
 use native.Mathlib.Omega.{arith}
@@ -11,7 +11,7 @@ use borrow.Rule.Slice.PartMut.{midOf, putMid}
 use Rattle.rules.specs.Bytes.{spacing, lineEnd, front}
 use Rattle.rules.specs.Elements.{isBlank}
 use Rattle.rules.specs.Meaning.{kept, keep, breaks, join, reassemble}
-use Rattle.rules.proofs.Tables.Tests.{cond-case, and-false}
+use Rattle.rules.proofs.Tables.Tests.{cond-case}
 use Rattle.classes.proofs.Runs.{unroll}
 use Rattle.output.specs.Puts.{Puts}
 use Rattle.output.specs.Joins.{maybe, Known, Turned}

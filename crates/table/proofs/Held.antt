@@ -1,6 +1,6 @@
 -- The tests of spans: inside the label, and texts and symbols byte by byte.
 use Prim.Native.Nat.{ℕ, _+_, _≤_, _<_}
-use mathlib.Core.Bool.{Bool, true, false, not, _&&_}
+use mathlib.Core.Bool.{Bool, true, false, not, _&&_, and-false}
 use mathlib.Core.Path.{_≡_, refl, sym, ap, _∙_}
 use mathlib.Core.List.{List}
 use borrow.Author.Needs.{needs}
@@ -8,7 +8,6 @@ use borrow.Author.Tests.{le-leb, lt-leb, not-true, not-false}
 use lib.Dec.{leb}
 use lib.ListN.{length, getD, drop, drop-of-length-le}
 use Rattle.rules.specs.Values.{each}
-use Rattle.rules.proofs.Tables.Tests.{and-false}
 use Rattle.rules.proofs.Machine.Checks.{textByte, symbolByte, isText, isSymbol, spanTest}
 use Rattle.classes.proofs.Runs.{unroll}
 use Rattle.rows.specs.Rows.{rowOf}

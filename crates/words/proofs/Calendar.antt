@@ -1,6 +1,6 @@
 -- The calendar: its tables, checked month by month, and the day of a year.
 use Prim.Native.Nat.{ℕ, zero, suc, _+_, _-_, _*_, _/_, _≤_, _<_, min}
-use mathlib.Core.Bool.{Bool, true, false, _&&_}
+use mathlib.Core.Bool.{Bool, true, false, _&&_, and-false}
 use mathlib.Core.Option.{none, some}
 use mathlib.Core.Path.{_≡_, refl, sym, ap, _∙_}
 use mathlib.Core.List.{List, [], _∷_, _++_}
@@ -19,7 +19,6 @@ use Rattle.forms.specs.Forms.{on, dateOf}
 use Rattle.words.specs.declared.days.InCalendar.{InCalendar}
 use Rattle.words.specs.declared.days.InCalendar.the-variants.{Missing, On}
 use Rattle.words.specs.Days.{months, lengthIn, total, daysBefore, Before, dayIfAny, YearDay, MonthDay, yearOf}
-use Rattle.rules.proofs.Tables.Tests.{and-false}
 
 -- ---- a test of every number below a bound
 

@@ -1,6 +1,6 @@
 -- Times: the nanoseconds of decimals, the limits of each part, and the zone.
 use Prim.Native.Nat.{ℕ, _+_, _-_, _*_, _^_, _≤_, _<_, min}
-use mathlib.Core.Bool.{Bool, true, false, cond, not, _&&_}
+use mathlib.Core.Bool.{Bool, true, false, cond, not, _&&_, and-false}
 use mathlib.Core.Path.{_≡_, refl, sym, ap, _∙_}
 use mathlib.Core.List.{List, [], _∷_}
 use native.Mathlib.Nat.{one-mul, mul-le-mul, mul-lt-mul-of-pos-right, pow-le-pow-right}
@@ -27,7 +27,6 @@ use Rattle.words.specs.Parts.{Significant}
 use Rattle.words.specs.Days.{dayIs, dayIfAny, yearOf}
 use Rattle.words.specs.Times.{nanos, nanosOf, InZone, Timed, InDigits}
 use Rattle.rules.proofs.Tables.ElementLimits.{onto-bound}
-use Rattle.rules.proofs.Tables.Tests.{and-false}
 use Rattle.rules.proofs.Written.PrintedMoments.{significant-all}
 use Rattle.words.proofs.Calendar.{upto}
 

@@ -1,6 +1,6 @@
 -- Reals: the loop that passes trailing zeros, the limits, and the power with an exponent that is held to a cap.
 use Prim.Native.Nat.{ℕ, suc, _+_, _-_, _^_, _≤_, _<_, min}
-use mathlib.Core.Bool.{Bool, true, false, cond, not, _&&_}
+use mathlib.Core.Bool.{Bool, true, false, cond, not, _&&_, and-false}
 use mathlib.Core.Option.{none, some}
 use mathlib.Core.Path.{_≡_, refl, sym, ap, _∙_}
 use mathlib.Core.List.{List, [], _∷_, _++_}
@@ -13,7 +13,6 @@ use lib.Seq.{take-all, take-suc, length-take-le}
 use Rattle.rules.specs.Data.{Whole}
 use Rattle.rules.specs.Values.{onto, number, signed, each, significant, moved, realKept, a-decimal}
 use Rattle.rules.proofs.Words.Worth.{nought, zeros-behind, digit-behind, onto-append, all-zeros}
-use Rattle.rules.proofs.Tables.Tests.{and-false}
 use Rattle.words.specs.declared.Value.{Value}
 use Rattle.words.specs.declared.Value.the-variants.{Float, Past}
 use Rattle.words.specs.Says.{Worth}

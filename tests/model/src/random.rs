@@ -890,6 +890,11 @@ pub fn table_case(random: &mut Random) -> TableCase {
     if random.one_in(20) {
         damage(random, &mut label);
     }
+    asked_of(random, label, table)
+}
+
+/// The table over its label, with a row and a name to ask for.
+fn asked_of(random: &mut Random, label: Vec<u8>, table: Vec<u8>) -> TableCase {
     let row = some_row(random, &table);
     let name = some_name(random, &label, &table);
     TableCase {
@@ -918,14 +923,7 @@ fn reals_case(random: &mut Random) -> TableCase {
         }
     }
     table.extend([99, 0, 0]);
-    let row = some_row(random, &table);
-    let name = some_name(random, &label, &table);
-    TableCase {
-        label,
-        table,
-        row,
-        name,
-    }
+    asked_of(random, label, table)
 }
 
 fn put_reals(random: &mut Random, table: &mut Vec<u8>, opening: &[u8], closing: &[u8]) {

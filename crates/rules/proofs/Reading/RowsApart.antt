@@ -6,16 +6,16 @@ use mathlib.Core.Bool.{Bool, true, false}
 use mathlib.Core.Path.{_≡_, refl, sym, ap, _∙_, subst}
 use mathlib.Core.List.{List, [], _∷_, _++_}
 use lib.ListN.{length}
-use Rattle.rules.specs.Data.{Span, comma, lpar, rpar, Elem, the, Placed, _on_, object, group, Op, Row, Opens, outside, inside}
+use Rattle.rules.specs.Data.{Span, comma, lpar, rpar, Elem, the, Placed, _on_, Op, Row, Opens, outside}
 use Rattle.rules.specs.Grammar.{strict}
 use Rattle.rules.specs.Modes.{Mode}
 use Rattle.rules.specs.Elements.{Gap, Spells, sign, placed, Cut}
 use Rattle.rules.specs.Faults.{Viable}
 use Rattle.rules.specs.Reading.{refused, Judged, misplaced}
-use Rattle.rules.proofs.Machine.Statements.{Group, in-sequence, in-row, in-set, Place, alone, within, Else, no-else, any-value, a-row, a-set-end, State, at-statement, at-semicolon, at-equals, at-pointer, at-opener, at-opened, at-closer, at-closed, at-scalar, at-number, at-member, at-row, at-next-row, at-unit, at-power, at-exponent, at-factor, at-end, Next, never, go, past, refuses, goes, judge, Entry, find, row-begins, powers, member, members, rows, statements, after-statement, follows, offers, step, isEnd}
+use Rattle.rules.proofs.Machine.Statements.{Group, in-sequence, in-row, in-set, Place, alone, within, Else, no-else, any-value, a-row, a-set-end, State, at-statement, at-semicolon, at-equals, at-pointer, at-opener, at-opened, at-closer, at-closed, at-scalar, at-number, at-member, at-row, at-next-row, at-unit, at-power, at-exponent, at-factor, at-end, Next, never, go, past, refuses, goes, judge, find, row-begins, powers, member, members, rows, follows, offers, step, isEnd}
 use Rattle.rules.proofs.Grammar.Each.{each-only}
 use Rattle.rules.proofs.Grammar.Run.{Reach, here, by-step, trace}
-use Rattle.rules.proofs.Grammar.Complete.{refuses-goes, members-fixed, rows-comma-found, rows-end-found}
+use Rattle.rules.proofs.Grammar.Complete.{refuses-goes, none-begins, none-follows, members-fixed, rows-comma-found, rows-end-found}
 use Rattle.rules.proofs.Grammar.Theorems.{viable→taken, refused-at}
 use Rattle.rules.proofs.Reading.Reader.{reach-early}
 
@@ -43,21 +43,6 @@ Closes (go q o r) = Done q
 Closes (past c q o r) = ⊥
 
 -- none of `)`, `(` and `,` begins a statement
-abbrev None : List Entry → Type 0
-None l = (find l rpar ≡ never) × (find l lpar ≡ never) × (find l comma ≡ never)
-
-none-begins : (v : Bool) (o : Opens) → None (statements v o .fixed)
-none-begins true outside = (refl, refl, refl)
-none-begins true (inside object n o) = (refl, refl, refl)
-none-begins true (inside group n o) = (refl, refl, refl)
-none-begins false outside = (refl, refl, refl)
-none-begins false (inside object n o) = (refl, refl, refl)
-none-begins false (inside group n o) = (refl, refl, refl)
-
-none-follows : (v : Bool) (o : Opens) → None (after-statement v o .fixed)
-none-follows true o = none-begins true o
-none-follows false o = none-begins false o
-
 nowhere : {n : Next} → n ≡ never → Closes n
 nowhere e = subst Closes (sym e) tt
 
@@ -81,17 +66,17 @@ powers-closes false c op p o = tt
 
 module _ (m : Mode) where
   follows-closes : (c : Place) (o : Opens) → Closes (find (follows m c o .fixed) rpar)
-  follows-closes alone o = nowhere (none-follows (m .pvl) o .0)
+  follows-closes alone o = nowhere (none-follows (m .pvl) o .2)
   follows-closes (within g) o = members-closes (m .version-1) g o
 
   closes : (q : State) (o : Opens) → Closes (find (offers m q o .fixed) rpar)
-  closes at-statement o = nowhere (none-begins (m .pvl) o .0)
-  closes at-semicolon o = nowhere (none-follows (m .pvl) o .0)
+  closes at-statement o = nowhere (none-begins (m .pvl) o .2)
+  closes at-semicolon o = nowhere (none-follows (m .pvl) o .2)
   closes at-equals o = tt
   closes at-pointer o = tt
   closes (at-opener k) o = tt
   closes (at-opened k) o = tt
-  closes (at-closer n) o = nowhere (none-follows (m .pvl) o .0)
+  closes (at-closer n) o = nowhere (none-follows (m .pvl) o .2)
   closes (at-closed n) o = tt
   closes (at-scalar c a) o = else-closes a m c o
   closes (at-number c) o = follows-closes c o
@@ -120,7 +105,7 @@ module _ (m : Mode) where
   -- ---- side by side
 
   beside : {q : State} → Done q → m .version-1 ≡ false → (o : Opens) (p : Span) → step m strict q o (the lpar on p) ≡ refuses 6
-  beside a-value-done h o p = ap (judge strict) (none-follows (m .pvl) o .1)
+  beside a-value-done h o p = ap (judge strict) (none-follows (m .pvl) o .3)
   beside a-row-done h o p = ap (λ (v : Bool). judge strict (find (rows v o) lpar)) h
 
   -- A `(` behind a `)` is refused with 6 at the `(`, if the elements up to the `)` begin a label: the second of two rows side by side, and whatever `(`
@@ -137,7 +122,7 @@ module _ (m : Mode) where
 
   behind-comma : {q q′ : State} {o′ : Opens} {rs : List Row} (o : Opens) (p : Span) → Done q → step m strict q o (the comma on p) ≡ goes q′ o′ rs →
       q′ ≡ at-next-row
-  behind-comma o p a-value-done e = absurd (refuses-goes (sym (ap (judge strict) (none-follows (m .pvl) o .2)) ∙ e))
+  behind-comma o p a-value-done e = absurd (refuses-goes (sym (ap (judge strict) (none-follows (m .pvl) o .4)) ∙ e))
   behind-comma {q′ = q′} {o′ = o′} {rs = rs} o p a-row-done e =
       let z : goes at-next-row o [] ≡ goes q′ o′ rs = sym (ap (judge strict) (rows-comma-found (m .version-1) o)) ∙ e in cc
 

@@ -3,7 +3,7 @@ use Prim.Native.Nat.{ℕ, suc, _+_, _-_, _*_, _%_, _^_, _≤_, _<_}
 use mathlib.Core.Path.{_≡_, refl, sym, ap, _∙_, subst}
 use mathlib.Core.Logic.{_⊎_, inl, inr}
 use mathlib.Core.Option.{Option, none as absent, some}
-use mathlib.Core.Bool.{Bool, true, false, cond, _&&_}
+use mathlib.Core.Bool.{Bool, true, false, cond, _&&_, and-false}
 use mathlib.Core.List.{List, [], _++_, map}
 use native.Mathlib.Nat.{pow-zero, pow-succ', mul-one, mul-assoc, mul-lt-mul-of-pos-right}
 use native.Mathlib.Omega.{arith}
@@ -20,7 +20,7 @@ use Rattle.rules.specs.Words.{from-to, Digits, Integer, signed-digits, B
 use Rattle.rules.specs.Elements.{setsOff, Spells, word, sign, one-star, two-stars, one-slash, quoted-text, quoted-symbol, Cut, none-more, next}
 use Rattle.rules.proofs.Words.Worth.{significant-last, IsDay, day-of-year}
 use Rattle.rules.proofs.Machine.Limits.{Within, RealHeld, Dated, Timed, Untimed, date-alone, time-alone, date-and-time, Worded, Possible, PossibleAt}
-use Rattle.rules.proofs.Tables.Tests.{all-append, cond-case, and-left, and-right, and-false, between-out}
+use Rattle.rules.proofs.Tables.Tests.{all-append, cond-case, and-left, and-right, between-out}
 use Rattle.rules.proofs.Tables.Numbers.{pow-positive}
 use Rattle.rules.proofs.Written.PrintedMoments.{significant-all}
 

@@ -1,6 +1,6 @@
 -- The one pass over the bytes of an identifier is equal to the rules' test.
 use Prim.Native.Nat.{ℕ}
-use mathlib.Core.Bool.{Bool, true, false, not, _&&_, true≢false}
+use mathlib.Core.Bool.{Bool, true, false, not, _&&_, true≢false, and-false}
 use mathlib.Core.Path.{_≡_, refl, sym, ap, _∙_}
 use mathlib.Core.List.{List, [], _∷_}
 use borrow.Author.Tests.{eqb-true}
@@ -9,7 +9,6 @@ use lib.ListN.{drop}
 use Rattle.rules.specs.Bytes.{ascii, letter, alnum, front, pair, anywhere}
 use Rattle.rules.specs.Values.{same, each}
 use Rattle.rules.specs.Words.{nameByte, isIdentifier}
-use Rattle.rules.proofs.Tables.Tests.{and-false}
 use Rattle.rules.proofs.Machine.Words.{nextMore, more}
 
 -- ---- the rules' test, but for the first letter

@@ -1,7 +1,7 @@
 -- Digits as they are written stand for their number, and integers as they are written are words as they are read.
 use Prim.Native.Nat.{ℕ, zero, suc, _+_, _-_, _*_, _/_, _%_, _^_, _≤_, _<_}
 use mathlib.Core.Path.{_≡_, refl, sym, ap, _∙_, subst}
-use mathlib.Core.Bool.{Bool, true, false, cond, not, _&&_, true≢false}
+use mathlib.Core.Bool.{Bool, true, false, cond, not, _&&_, true≢false, and-false}
 use mathlib.Core.List.{List, [], _∷_, _++_, map}
 use native.Mathlib.Nat.{mod-lt, mod-eq-of-lt, pow-succ', pow-le-pow-right, div-le-self, div-lt-iff-lt-mul, div-div-eq-div-mul, zero-div, zero-mul, zero-add, suc-add, le-refl}
 use native.Mathlib.Omega.{arith}
@@ -16,7 +16,7 @@ use Rattle.rules.specs.Values.{a-whole, onto, number, signed, within, si
 use Rattle.rules.specs.Written.{unpadded, digits, wide, minusOnly, decimal}
 use Rattle.rules.proofs.Tables.Numbers.{wide-places, places, valueOnto, pow-positive, places-value}
 use Rattle.rules.proofs.Machine.Limits.{Within}
-use Rattle.rules.proofs.Tables.Tests.{cond-case, and-left, and-false, between-in}
+use Rattle.rules.proofs.Tables.Tests.{cond-case, and-left, between-in}
 use Rattle.rules.proofs.Words.Worth.{noughts, digit-behind}
 
 -- ---- digits
@@ -76,12 +76,14 @@ unfolding unpadded
 unpadded-last x [] = ([], ap (λ (t : Bool). cond t (unpadded []) (x ∷ [])) (and-false (eqb x 48)))
 unpadded-last x (d ∷ f) = cond-case (EndsWith x) (eqb d 48 && leb 1 (length (f ++ (x ∷ [])))) _ _ (λ e. unpadded-last x f) (λ e. (d ∷ f, refl))
 
+-- digits dropped, the last one first
+pub tenth : (n k : ℕ) → n / 10 ^ suc k ≡ n / 10 / 10 ^ k
+tenth n k = ap (λ (i : ℕ). n / i) (pow-succ' 10 k) ∙ sym (div-div-eq-div-mul n 10 (10 ^ k))
+
 pub last-digit : (k n : ℕ) → wide (suc k) n ≡ wide k (n / 10) ++ ((48 + n % 10) ∷ [])
 unfolding wide
 last-digit zero n = let e : n / 10 ^ 0 ≡ n = omega arith in rw e
-last-digit (suc k) n =
-    let e : n / 10 ^ suc k ≡ n / 10 / 10 ^ k = ap (λ (i : ℕ). n / i) (pow-succ' 10 k) ∙ sym (div-div-eq-div-mul n 10 (10 ^ k)) in
-    rw e (ap (λ (l : List ℕ). (48 + n / 10 / 10 ^ k % 10) ∷ l) (last-digit k n))
+last-digit (suc k) n = rw (tenth n k) (ap (λ (l : List ℕ). (48 + n / 10 / 10 ^ k % 10) ∷ l) (last-digit k n))
 
 pub printed : (n : ℕ) → n < 10 ^ 20 → Prints n (digits n)
 unfolding digits

@@ -8,13 +8,13 @@ use native.Mathlib.Decide.{ℕ-discrete}
 use native.Mathlib.Nat.{div-add-mod'}
 use native.Mathlib.Omega.{arith}
 use borrow.Author.Tests.{lt-ltb, le-ltb, le-leb, ne-eqb}
-use lib.Dec.{leb, eqb}
+use lib.Dec.{leb, ltb, eqb}
 use lib.ListN.{length, length-append}
 use Rattle.rules.specs.Bytes.{ascii, digit, All, none, one}
 use Rattle.rules.specs.Data.{Whole, Real, real}
 use Rattle.rules.specs.Proper.{theRules}
 use Rattle.rules.specs.Words.{upper, Scale, unscaled, scaled, pointed, real-word, Form}
-use Rattle.rules.specs.Values.{a-decimal, onto, number, significant, moved, held, realKept, then}
+use Rattle.rules.specs.Values.{a-decimal, onto, number, signed, significant, moved, held, realKept, then}
 use Rattle.rules.specs.Written.{unpadded, digits, wide, minusOnly, decimal, plainBytes, fullBytes, scaledBytes, unsignedBytes, realBytes}
 use Rattle.rules.proofs.Machine.Limits.{RealHeld}
 use Rattle.rules.proofs.Tables.Tests.{all-append, cond-case, and-left, as-not}
@@ -31,23 +31,33 @@ held-is b n ds fs a zs z p e s v zeros u m =
     let more : length (ds ++ fs) - length a ≡ length zs = rw (e, length-append) (omega arith) in
     rw (sig, v, more, m) (ap (λ (w : Whole). record { number = w; power = p }) (signed-plain b n u))
 
+-- above - below, where below is k more, and where above is
+lower : (above below k : ℕ) → above + k ≡ below → 0 < k → signed (ltb above below) (above - below + (below - above)) ≡ record { minus = true; size = k }
+lower above below k e h =
+    let size : above - below + (below - above) ≡ k = omega arith in
+    rw (lt-ltb above below (omega arith), size, ne-eqb k 0 (λ z. omega arith))
+
+higher : (above below k : ℕ) → below + k ≡ above → signed (ltb above below) (above - below + (below - above)) ≡ record { minus = false; size = k }
+higher above below k e =
+    let size : above - below + (below - above) ≡ k = omega arith in
+    rw (le-ltb above below (omega arith), size)
+
 -- z + 0 - 0
 moved-not : (b : Bool) (n : ℕ) → (n ≡ 0 → b ≡ false) → moved (record { minus = b; size = n }) 0 0 ≡ record { minus = b; size = n }
 moved-not true zero h = absurd (true≢false (h refl))
-moved-not true (suc n) h =
-    rw (lt-ltb (0 + 0) (0 + suc n) (omega arith), ne-eqb (0 + 0 - (0 + suc n) + (0 + suc n - (0 + 0))) 0 (λ e. omega arith)) (ap (λ (i : ℕ). record { minus = true; size = i }) (omega arith))
-moved-not false n h = rw (le-ltb (0 + n) (0 + 0) (omega arith)) (ap (λ (i : ℕ). record { minus = false; size = i }) (omega arith))
+moved-not true (suc n) h = lower (0 + 0) (0 + suc n) (suc n) (omega arith) (omega arith)
+moved-not false n h = higher (0 + n) (0 + 0) n (omega arith)
 
 abbrev nil : Whole
 nil = record { minus = false; size = 0 }
 
 -- 0 + 0 - k
 moved-down : (k : ℕ) → 0 < k → moved nil 0 k ≡ record { minus = true; size = k }
-moved-down k h = rw (lt-ltb (0 + 0) (k + 0) (omega arith), ne-eqb (0 + 0 - (k + 0) + (k + 0 - (0 + 0))) 0 (λ e. omega arith)) (ap (λ (i : ℕ). record { minus = true; size = i }) (omega arith))
+moved-down k h = lower (0 + 0) (k + 0) k (omega arith) h
 
 -- 0 + (k + 1) - 1
 moved-up : (k : ℕ) → moved nil (k + 1) 1 ≡ record { minus = false; size = k }
-moved-up k = rw (le-ltb (k + 1 + 0) (1 + 0) (omega arith)) (ap (λ (i : ℕ). record { minus = false; size = i }) (omega arith))
+moved-up k = higher (k + 1 + 0) (1 + 0) k (omega arith)
 
 -- ---- a number that ends in no zero, in each form
 

@@ -1,7 +1,7 @@
 -- Reassembly: it keeps what a text may hold, and does nothing to its own results.
 use Prim.Native.Nat.{ℕ}
 use mathlib.Core.Path.{_≡_, refl}
-use mathlib.Core.Bool.{Bool, true, false, not, _&&_}
+use mathlib.Core.Bool.{Bool, true, false, not, _&&_, and-false}
 use mathlib.Core.List.{List, [], _∷_}
 use lib.Dec.{ltb, eqb}
 use Rattle.rules.specs.Bytes.{spacing, lineEnd, front}
@@ -10,7 +10,7 @@ use Rattle.rules.specs.Values.{each}
 use Rattle.rules.specs.Proper.{Each, none, one}
 use Rattle.rules.specs.Meaning.{kept, keep, breaks, join, reassemble}
 use Rattle.rules.proofs.Machine.Checks.{isText}
-use Rattle.rules.proofs.Tables.Tests.{cond-case, cond-same, and-true, and-left, and-right, and-false, or-left, or-right, not-as, as-not, passes-each, each-map}
+use Rattle.rules.proofs.Tables.Tests.{cond-case, cond-same, and-true, and-left, and-right, or-left, or-right, not-as, as-not, passes-each, each-map}
 
 -- what holds of every byte that is no line end, and of a space, holds of what is joined
 pub join-all : (p : ℕ → Bool) → p 32 ≡ true → (d : Bool) (s : List ℕ) → Each (λ b. lineEnd b ≡ false → p b ≡ true) s → each p (join d s) ≡ true
