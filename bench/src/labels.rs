@@ -2,12 +2,13 @@
 
 type Label = fn(usize) -> Vec<u8>;
 
-pub const KINDS: [(&str, Label); 5] = [
+pub const KINDS: [(&str, Label); 6] = [
     ("dense", dense),
     ("padded", padded),
     ("sample", sample),
     ("digits", digits),
     ("reals", reals),
+    ("times", times),
 ];
 
 /// Names and values of every sort.
@@ -96,5 +97,18 @@ fn digits(size: usize) -> Vec<u8> {
 fn reals(size: usize) -> Vec<u8> {
     filled(size, |number| {
         format!("A=(1.50,-.015,{number}.25,2E-18,-15.,31459e1,1E17,15E-30,6.02E23)\n")
+    })
+}
+
+/// Sequences of dates and times: days of every month, by day of year and by
+/// month and day, with and without decimals and zones.
+fn times(size: usize) -> Vec<u8> {
+    filled(size, |number| {
+        let (year, day) = (1970 + number % 60, 1 + number * 31 % 365);
+        let (month, of_month) = (1 + number % 12, 1 + number % 28);
+        format!(
+            "A=({year}-{day:03},{year}-{month:02}-{of_month:02}T05:19:11.25Z,\
+             {year}-{day}T07:20+02:00,10:00:00.123456789)\n"
+        )
     })
 }

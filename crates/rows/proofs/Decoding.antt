@@ -35,7 +35,14 @@ pub no-length : (k : ℕ) → (k ≡ 1 → ⊥) → (k ≡ 2 → ⊥) → (k ≡
 no-length k a b c d e f g h i j l =
     rw (ne-eqb k 1 a, ne-eqb k 2 b, ne-eqb k 3 c, ne-eqb k 5 d, ne-eqb k 10 e, ne-eqb k 11 f, ne-eqb k 12 g, ne-eqb k 13 h, ne-eqb k 14 i, ne-eqb k 15 j, ne-eqb k 99 l)
 
-pub ruleset lengths = (length-is, no-length, needs)
+-- the kinds up to 23, and those beyond
+pub not-near : (k j : ℕ) → 23 < k → j ≤ 23 → k ≡ j → ⊥
+not-near k j h l e = omega arith
+
+pub not-far : (k j : ℕ) → k ≤ 23 → 23 < j → k ≡ j → ⊥
+not-far k j h l e = omega arith
+
+pub ruleset lengths = (length-is, no-length, not-near, not-far, needs)
 
 -- ---- spans
 
@@ -217,7 +224,7 @@ pub no-kind : (k : ℕ) (t : List ℕ) (next : ℕ) → (k ≡ 1 → ⊥) → (k
     (k ≡ 14 → ⊥) → (k ≡ 15 → ⊥) → (k ≡ 20 → ⊥) → (k ≡ 21 → ⊥) → (k ≡ 22 → ⊥) → (k ≡ 23 → ⊥) → (k ≡ 99 → ⊥) → BodyGives k t next Nothing
 no-kind k t next a b c d e f g h i j l m n o p q r = gives-none (λ rest. unknown k (fit (bodyOf k) t ++ rest) a b c d e f g h i j l m n o p q r)
 
-pub ruleset bodies = (attribute-row, pointer-row, object-row, group-row, text-row, symbol-row, object-end-row, group-end-row, sequence-row, sequence-end-row, set-row, set-end-row, last-row, of-body, unit-row, an-integer, a-real, a-moment, unit-of, unit-first, unit-times, unit-divided, unit-none, no-kind, needs)
+pub ruleset bodies = (attribute-row, pointer-row, object-row, group-row, text-row, symbol-row, object-end-row, group-end-row, sequence-row, sequence-end-row, set-row, set-end-row, last-row, of-body, unit-row, an-integer, a-real, a-moment, unit-of, unit-first, unit-times, unit-divided, unit-none, no-kind, not-near, not-far, needs)
 
 -- ---- the row at a place
 

@@ -1,12 +1,12 @@
--- The calendar: its tables, checked month by month, and the day of a year.
-use Prim.Native.Nat.{ℕ, zero, suc, _+_, _-_, _*_, _/_, _≤_, _<_, min}
-use mathlib.Core.Bool.{Bool, true, false, _&&_, and-false}
+-- The calendar: its formulas, checked month by month, and the day of a year.
+use Prim.Native.Nat.{ℕ, zero, suc, _+_, _-_, _*_, _/_, _%_, _≤_, _<_, min}
+use mathlib.Core.Bool.{Bool, true, false, cond, _&&_, _||_, and-false}
 use mathlib.Core.Option.{none, some}
 use mathlib.Core.Path.{_≡_, refl, sym, ap, _∙_}
 use mathlib.Core.List.{List, [], _∷_, _++_}
 use native.Mathlib.Omega.{arith}
-use borrow.Author.Tests.{eqb-true, eqb-false, ne-eqb, leb-true, le-leb, lt-leb}
-use lib.Dec.{eqb, leb}
+use borrow.Author.Tests.{eqb-true, eqb-false, ne-eqb, leb-true, le-leb, lt-leb, le-ltb}
+use lib.Dec.{eqb, leb, ltb}
 use lib.ListN.{getD, take, drop, List·getD-eq-default}
 use lib.Seq.{split-at}
 use Rattle.rules.specs.Values.{number, leap, monthLength, nthDay, dayOf}
@@ -22,7 +22,7 @@ use Rattle.words.specs.Days.{months, lengthIn, total, daysBefore, Before
 
 -- ---- a test of every number below a bound
 
-abbrev check : (ℕ → Bool) → ℕ → Bool
+abbrev pub check : (ℕ → Bool) → ℕ → Bool
 check p zero = true
 check p (suc k) = p k && check p k
 
@@ -34,42 +34,39 @@ upto p (suc k) h m l = go (upto p k (both (p k) (check p k) h .1) m) (eqb m k) r
     go ih true e = ap p (eqb-true m k e) ∙ both (p k) (check p k) h .0
     go ih false e = let n = eqb-false m k e in ih (omega arith)
 
--- ---- the tables
+-- of a leap year and of a plain one
+each-year : (p : Bool → ℕ → Bool) (k : ℕ) → check (p true) k ≡ true → check (p false) k ≡ true → (t : Bool) (m : ℕ) → m < k → p t m ≡ true
+each-year p k h g true m l = upto (p true) k h m l
+each-year p k h g false m l = upto (p false) k g m l
 
-abbrev lengths : List ℕ
-lengths = 0 ∷ 31 ∷ 28 ∷ 31 ∷ 30 ∷ 31 ∷ 30 ∷ 31 ∷ 31 ∷ 30 ∷ 31 ∷ 30 ∷ 31 ∷ []
+-- of a month that the test does not leave out
+unless : (a b : Bool) → (a || b) ≡ true → a ≡ false → b ≡ true
+unless a b h e = rw e at h
 
-abbrev leapLengths : List ℕ
-leapLengths = 0 ∷ 31 ∷ 29 ∷ 31 ∷ 30 ∷ 31 ∷ 30 ∷ 31 ∷ 31 ∷ 30 ∷ 31 ∷ 30 ∷ 31 ∷ []
+-- ---- the length of a month
 
-abbrev before : List ℕ
-before = 0 ∷ 0 ∷ 31 ∷ 59 ∷ 90 ∷ 120 ∷ 151 ∷ 181 ∷ 212 ∷ 243 ∷ 273 ∷ 304 ∷ 334 ∷ []
+-- but for February, months of 31 and of 30 days in turns
+abbrev turns : ℕ → ℕ
+turns m = 30 + (m + m / 8) % 2
 
-abbrev leapBefore : List ℕ
-leapBefore = 0 ∷ 0 ∷ 31 ∷ 60 ∷ 91 ∷ 121 ∷ 152 ∷ 182 ∷ 213 ∷ 244 ∷ 274 ∷ 305 ∷ 335 ∷ []
+pub month-0 : (y m : ℕ) → m ≡ 0 → 0 ≡ monthLength y m
+month-0 y m h = rw h
 
--- the table's entry is that of the rule
-fits : (table : List ℕ) (f : ℕ → ℕ) → check (λ m. eqb (getD table m 0) (f m)) 13 ≡ true → (m : ℕ) → m ≤ 12 → getD table m 0 ≡ f m
-fits table f h m l = eqb-true (getD table m 0) (f m) (upto (λ i. eqb (getD table i 0) (f i)) 13 h m (omega arith))
+pub past-december : (y m : ℕ) → 12 < m → 0 ≡ monthLength y m
+past-december y m h =
+    rw (ne-eqb m 2 (λ e. omega arith))
+    (sym (List·getD-eq-default (0 ∷ 31 ∷ 28 ∷ 31 ∷ 30 ∷ 31 ∷ 30 ∷ 31 ∷ 31 ∷ 30 ∷ 31 ∷ 30 ∷ 31 ∷ []) 0 {n = m} h))
 
-long : (t : Bool) (m : ℕ) → m ≤ 12 → lengthIn t m ≤ 31
-long true m l = leb-true (lengthIn true m) 31 (upto (λ i. leb (lengthIn true i) 31) 13 refl m (omega arith))
-long false m l = leb-true (lengthIn false m) 31 (upto (λ i. leb (lengthIn false i) 31) 13 refl m (omega arith))
+pub in-turns : (y m : ℕ) → (m ≡ 0 → ⊥) → m ≤ 12 → (m ≡ 2 → ⊥) → turns m ≡ monthLength y m
+in-turns y m z l n =
+    let h = each-year (λ t i. (eqb i 0 || eqb i 2) || eqb (turns i) (lengthIn t i)) 13 refl refl (leap y) m (omega arith) in
+    eqb-true (turns m) (monthLength y m) (unless (eqb m 0 || eqb m 2) (eqb (turns m) (monthLength y m)) h (rw (ne-eqb m 0 z, ne-eqb m 2 n)))
 
-pub leap-length : (y m : ℕ) (t : Bool) → m ≤ 12 → t ≡ leap y → t ≡ true → getD leapLengths m 0 ≡ monthLength y m
-leap-length y m t l e h = rw (sym e ∙ h) (fits leapLengths (lengthIn true) refl m l)
+pub leap-february : (y m : ℕ) (t : Bool) → m ≡ 2 → t ≡ leap y → t ≡ true → 29 ≡ monthLength y m
+leap-february y m t h e f = rw (h, sym e ∙ f)
 
-pub plain-length : (y m : ℕ) (t : Bool) → m ≤ 12 → t ≡ leap y → t ≡ false → getD lengths m 0 ≡ monthLength y m
-plain-length y m t l e h = rw (sym e ∙ h) (fits lengths (lengthIn false) refl m l)
-
-pub no-length : (y m : ℕ) → 12 < m → 0 ≡ monthLength y m
-no-length y m h = rw (ne-eqb m 2 (λ e. omega arith)) (sym (List·getD-eq-default lengths 0 {n = m} h))
-
-pub leap-long : (m : ℕ) → m ≤ 12 → getD leapLengths m 0 ≤ 31
-leap-long m l = omega (arith, fits leapLengths (lengthIn true) refl m l, long true m l)
-
-pub plain-long : (m : ℕ) → m ≤ 12 → getD lengths m 0 ≤ 31
-plain-long m l = omega (arith, fits lengths (lengthIn false) refl m l, long false m l)
+pub plain-february : (y m : ℕ) (t : Bool) → m ≡ 2 → t ≡ leap y → t ≡ false → 28 ≡ monthLength y m
+plain-february y m t h e f = rw (h, sym e ∙ f)
 
 -- ---- the days before a month
 
@@ -77,12 +74,9 @@ abbrev passed : Bool → ℕ → ℕ
 passed t i = total t (take i months)
 
 about : (t : Bool) (i : ℕ) → i < 12 → (passed t i + 31 ≤ 31 * suc i) × (31 * suc i ≤ passed t i + 38)
-about true i l =
-    let b = both (leb (passed true i + 31) (31 * suc i)) (leb (31 * suc i) (passed true i + 38)) (upto (λ j. leb (passed true j + 31) (31 * suc j) && leb (31 * suc j) (passed true j + 38)) 12 refl i l) in
-    (leb-true (passed true i + 31) (31 * suc i) (b .0), leb-true (31 * suc i) (passed true i + 38) (b .1))
-about false i l =
-    let b = both (leb (passed false i + 31) (31 * suc i)) (leb (31 * suc i) (passed false i + 38)) (upto (λ j. leb (passed false j + 31) (31 * suc j) && leb (31 * suc j) (passed false j + 38)) 12 refl i l) in
-    (leb-true (passed false i + 31) (31 * suc i) (b .0), leb-true (31 * suc i) (passed false i + 38) (b .1))
+about t i l =
+    let b = both (leb (passed t i + 31) (31 * suc i)) (leb (31 * suc i) (passed t i + 38)) (each-year (λ u j. leb (passed u j + 31) (31 * suc j) && leb (31 * suc j) (passed u j + 38)) 12 refl refl t i l) in
+    (leb-true (passed t i + 31) (31 * suc i) (b .0), leb-true (31 * suc i) (passed t i + 38) (b .1))
 
 -- whatever gives the days before a month keeps the bounds
 pub before-is : (y m r : ℕ) → 1 ≤ m → m ≤ 12 → r ≡ daysBefore y m → Before y m r
@@ -91,22 +85,39 @@ before-is y m r h k e =
     let b = about (leap y) (m - 1) (omega arith) in
     record { is = e; most = omega (arith, b .0); least = omega (arith, b .1) }
 
-pub leap-before : (y m : ℕ) (t : Bool) → 1 ≤ m → m ≤ 12 → t ≡ leap y → t ≡ true → Before y m (getD leapBefore m 0)
-unfolding daysBefore
-leap-before y m t h k e f = before-is y m (getD leapBefore m 0) h k (rw (sym e ∙ f) (fits leapBefore (λ i. passed true (i - 1)) refl m k))
+-- so many, if February had 30 days
+abbrev asIf30 : ℕ → ℕ
+asIf30 m = 30 * (m - 1) + (m + m / 8) / 2
 
-pub plain-before : (y m : ℕ) (t : Bool) → 1 ≤ m → m ≤ 12 → t ≡ leap y → t ≡ false → Before y m (getD before m 0)
+pub before-march : (y m : ℕ) → 1 ≤ m → m < 3 → Before y m (asIf30 m)
 unfolding daysBefore
-plain-before y m t h k e f = before-is y m (getD before m 0) h k (rw (sym e ∙ f) (fits before (λ i. passed false (i - 1)) refl m k))
+before-march y m h l =
+    before-is y m (asIf30 m) h (omega arith)
+    (eqb-true (asIf30 m) (passed (leap y) (m - 1)) (each-year (λ t i. eqb (asIf30 i) (passed t (i - 1))) 3 refl refl (leap y) m l))
+
+-- what February lacks of them
+abbrev lacking : Bool → ℕ
+lacking t = cond t 1 2
+
+from-march : (t : Bool) (m : ℕ) → 3 ≤ m → m ≤ 12 → asIf30 m - lacking t ≡ passed t (m - 1)
+from-march t m h k =
+    let q = each-year (λ u i. ltb i 3 || eqb (asIf30 i - lacking u) (passed u (i - 1))) 13 refl refl t m (omega arith) in
+    eqb-true (asIf30 m - lacking t) (passed t (m - 1)) (unless (ltb m 3) (eqb (asIf30 m - lacking t) (passed t (m - 1))) q (le-ltb m 3 h))
+
+pub leap-before : (y m : ℕ) (t : Bool) → 3 ≤ m → m ≤ 12 → t ≡ leap y → t ≡ true → Before y m (asIf30 m - 1)
+unfolding daysBefore
+leap-before y m t h k e f = before-is y m (asIf30 m - 1) (omega arith) k (rw (sym e ∙ f) (from-march true m h k))
+
+pub plain-before : (y m : ℕ) (t : Bool) → 3 ≤ m → m ≤ 12 → t ≡ leap y → t ≡ false → Before y m (asIf30 m - 2)
+unfolding daysBefore
+plain-before y m t h k e f = before-is y m (asIf30 m - 2) (omega arith) k (rw (sym e ∙ f) (from-march false m h k))
 
 -- a month has 28 days at least, and the next month begins behind it
 after : (t : Bool) (i : ℕ) → i < 11 → passed t (suc i) ≡ passed t i + lengthIn t (suc i)
-after true i l = eqb-true (passed true (suc i)) (passed true i + lengthIn true (suc i)) (upto (λ j. eqb (passed true (suc j)) (passed true j + lengthIn true (suc j))) 11 refl i l)
-after false i l = eqb-true (passed false (suc i)) (passed false i + lengthIn false (suc i)) (upto (λ j. eqb (passed false (suc j)) (passed false j + lengthIn false (suc j))) 11 refl i l)
+after t i l = eqb-true (passed t (suc i)) (passed t i + lengthIn t (suc i)) (each-year (λ u j. eqb (passed u (suc j)) (passed u j + lengthIn u (suc j))) 11 refl refl t i l)
 
 short : (t : Bool) (i : ℕ) → i < 12 → 28 ≤ lengthIn t (suc i)
-short true i l = leb-true 28 (lengthIn true (suc i)) (upto (λ j. leb 28 (lengthIn true (suc j))) 12 refl i l)
-short false i l = leb-true 28 (lengthIn false (suc i)) (upto (λ j. leb 28 (lengthIn false (suc j))) 12 refl i l)
+short t i l = leb-true 28 (lengthIn t (suc i)) (each-year (λ u j. leb 28 (lengthIn u (suc j))) 12 refl refl t i l)
 
 whole-year : (t : Bool) → total t months ≡ passed t 11 + 31
 whole-year true = refl

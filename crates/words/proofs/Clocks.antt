@@ -1,13 +1,13 @@
 -- Times: the nanoseconds of decimals, the limits of each part, and the zone.
-use Prim.Native.Nat.{ℕ, _+_, _-_, _*_, _^_, _≤_, _<_, min}
+use Prim.Native.Nat.{ℕ, _+_, _-_, _*_, _/_, _%_, _^_, _≤_, _<_, min}
 use mathlib.Core.Bool.{Bool, true, false, cond, not, _&&_, and-false}
 use mathlib.Core.Path.{_≡_, refl, sym, ap, _∙_}
-use mathlib.Core.List.{List, [], _∷_}
+use mathlib.Core.List.{List}
 use native.Mathlib.Nat.{one-mul, mul-le-mul, mul-lt-mul-of-pos-right, pow-le-pow-right}
 use native.Mathlib.Omega.{arith}
 use borrow.Author.Tests.{eqb-true, leb-true, lt-ltb, le-ltb, le-leb, lt-leb}
 use lib.Dec.{eqb, leb, ltb}
-use lib.ListN.{length, getD, take}
+use lib.ListN.{length, take}
 use lib.Pow.{pow-add}
 use lib.Seq.{length-take-le}
 use Rattle.rules.specs.Bytes.{All, digit}
@@ -27,22 +27,46 @@ use Rattle.words.specs.Parts.{Significant}
 use Rattle.words.specs.Days.{dayIs, dayIfAny, yearOf}
 use Rattle.words.specs.Times.{nanos, nanosOf, InZone, Timed, InDigits}
 use Rattle.rules.proofs.Tables.ElementLimits.{onto-bound}
+use Rattle.rules.proofs.Tables.Numbers.{pow-positive}
 use Rattle.rules.proofs.Written.PrintedMoments.{significant-all}
-use Rattle.words.proofs.Calendar.{upto}
+use Rattle.words.proofs.Calendar.{check, upto}
 
 -- ---- nanoseconds
 
-abbrev tens : List ℕ
-tens = 1 ∷ 10 ∷ 100 ∷ 1000 ∷ 10000 ∷ 100000 ∷ 1000000 ∷ 10000000 ∷ 100000000 ∷ 1000000000 ∷ []
+-- the factors of a power of ten, checked for every exponent
+abbrev ten : ℕ → ℕ
+ten e = cond (eqb (e % 2) 1) 10 1
 
-pub ten-is : (e : ℕ) → e ≤ 9 → getD tens e 0 ≡ 10 ^ e
-ten-is e h = eqb-true (getD tens e 0) (10 ^ e) (upto (λ i. eqb (getD tens i 0) (10 ^ i)) 10 refl e (omega arith))
+abbrev square : ℕ → ℕ
+square e = cond (eqb (e / 2 % 2) 1) 100 1
 
-pub ten-most : (e : ℕ) → e ≤ 9 → getD tens e 0 ≤ 1000000000
-ten-most e h = leb-true (getD tens e 0) 1000000000 (upto (λ i. leb (getD tens i 0) 1000000000) 10 refl e (omega arith))
+abbrev fourth : ℕ → ℕ
+fourth e = cond (eqb (e / 4 % 2) 1) 10000 1
 
-ten-least : (e : ℕ) → e ≤ 9 → 1 ≤ getD tens e 0
-ten-least e h = leb-true 1 (getD tens e 0) (upto (λ i. leb 1 (getD tens i 0)) 10 refl e (omega arith))
+abbrev eighth : ℕ → ℕ
+eighth e = cond (eqb (e / 8) 1) 100000000 1
+
+-- what such factors come to
+small : (f : ℕ → ℕ) → check (λ i. leb (f i) 1000000000) 10 ≡ true → (e : ℕ) → e ≤ 9 → f e ≤ 1000000000
+small f h e l = leb-true (f e) 1000000000 (upto (λ i. leb (f i) 1000000000) 10 h e (omega arith))
+
+module _ (e a b : ℕ) (l : e ≤ 9) (u : a ≡ ten e) (v : b ≡ square e) where
+  pub two-fit : a * b < 18446744073709551616
+  two-fit = rw (u, v) (omega (arith, small (λ i. ten i * square i) refl e l))
+
+  pub three-fit : (c : ℕ) → c ≡ fourth e → a * b * c < 18446744073709551616
+  three-fit c w = rw (u, v, w) (omega (arith, small (λ i. ten i * square i * fourth i) refl e l))
+
+  pub ten-most : (c d : ℕ) → c ≡ fourth e → d ≡ eighth e → a * b * c * d ≤ 1000000000
+  ten-most c d w x = rw (u, v, w, x) (small (λ i. ten i * square i * fourth i * eighth i) refl e l)
+
+  pub four-fit : (c d : ℕ) → c ≡ fourth e → d ≡ eighth e → a * b * c * d < 18446744073709551616
+  four-fit c d w x = omega (arith, ten-most c d w x)
+
+  pub ten-is : (c d : ℕ) → c ≡ fourth e → d ≡ eighth e → a * b * c * d ≡ 10 ^ e
+  ten-is c d w x =
+      rw (u, v, w, x)
+      (eqb-true (ten e * square e * fourth e * eighth e) (10 ^ e) (upto (λ i. eqb (ten i * square i * fourth i * eighth i) (10 ^ i)) 10 refl e (omega arith)))
 
 pub number-bound : {s : List ℕ} → All digit s → number s < 10 ^ length s
 number-bound {s} h = rw one-mul at (onto-bound 0 1 h (omega arith))
@@ -53,7 +77,7 @@ nanos-bound ds h l =
     let a : number (significant ds) < 10 ^ length (significant ds) = number-bound (significant-all ds h) in
     let e : length (significant ds) + (9 - length (significant ds)) ≡ 9 = omega arith in
     let p : 10 ^ length (significant ds) * 10 ^ (9 - length (significant ds)) ≡ 1000000000 = sym (pow-add 10 (length (significant ds)) (9 - length (significant ds))) ∙ ap (λ (x : ℕ). 10 ^ x) e in
-    let z : 0 < 10 ^ (9 - length (significant ds)) = omega (arith, ten-least (9 - length (significant ds)) (omega arith), ten-is (9 - length (significant ds)) (omega arith)) in
+    let z : 0 < 10 ^ (9 - length (significant ds)) = pow-positive 10 (9 - length (significant ds)) (omega arith) in
     rw p at (mul-lt-mul-of-pos-right {m = number (significant ds)} {n = 10 ^ length (significant ds)} {k = 10 ^ (9 - length (significant ds))} a z)
 
 pub too-many : (ds : List ℕ) (k : ℕ) → Significant ds k → 9 < k → 1000000000 ≡ nanosOf ds

@@ -21,43 +21,38 @@ pub enum InCalendar {
     On(Day),
 }
 
-// The days of each month, and the days of a year before it; the first entry is of no month.
-const LENGTHS: [u64; 13] = [0, 31, 28, 31, 30, 31, 30, 31, 31, 30, 31, 30, 31];
-
-const LEAP_LENGTHS: [u64; 13] = [0, 31, 29, 31, 30, 31, 30, 31, 31, 30, 31, 30, 31];
-
-const BEFORE: [u64; 13] = [0, 0, 31, 59, 90, 120, 151, 181, 212, 243, 273, 304, 334];
-
-const LEAP_BEFORE: [u64; 13] = [0, 0, 31, 60, 91, 121, 152, 182, 213, 244, 274, 305, 335];
-
 fn is_leap(year: u64) -> bool
     ensures { λ r. ⌜ r ≡ leap year ⌝ }
 {
     (year % 4 == 0) & (year % 100 != 0) | (year % 400 == 0)
 }
 
-// The days of a month; 0 where there is no such month.
+// The days of a month; 0 where there is no such month. But for February, months of 31 and of 30 days take turns, and begin anew with August.
 pub fn month_length(year: u64, month: u64) -> u64
     ensures { λ r. ⌜ (r ≡ monthLength year month) × (r ≤ 31) ⌝ }
 {
+    if month == 0 {
+        return 0;
+    }
     if 12 < month {
         return 0;
     }
-    if is_leap(year) {
-        return LEAP_LENGTHS[month as usize];
+    if month != 2 {
+        return 30 + (month + month / 8) % 2;
     }
-    LENGTHS[month as usize]
+    if is_leap(year) { 29 } else { 28 }
 }
 
-// The days of a year before a month.
+// The days of a year before a month: 30 for each month that has gone and a 31st where it has one, less what February lacks of 30.
 fn days_before(year: u64, month: u64) -> u64
     requires { ⌜ (1 ≤ month) × (month ≤ 12) ⌝ }
     ensures { λ r. ⌜ Before year month r ⌝ }
 {
-    if is_leap(year) {
-        return LEAP_BEFORE[month as usize];
+    let days = 30 * (month - 1) + (month + month / 8) / 2;
+    if month < 3 {
+        return days;
     }
-    BEFORE[month as usize]
+    if is_leap(year) { days - 1 } else { days - 2 }
 }
 
 // A year and a day of it. No month has more than 31 days, and all of them lack 7 days of that at most, so that the month is the guessed one or the next.

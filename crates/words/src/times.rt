@@ -13,6 +13,7 @@ use forms::Date;
 use forms::Stamp;
 use forms::Zone;
 ghost use mathlib.Core.Path.{_≡_};
+ghost use mathlib.Core.Bool.{cond};
 ghost use Prim.Native.Nat.{_^_, _≤_, _<_};
 ghost use Rattle.rules.specs.Bytes.{All, digit};
 ghost use Rattle.rules.specs.Values.{a-date, a-date-time};
@@ -21,25 +22,23 @@ ghost use Rattle.words.specs.Says.{Worth};
 ghost use Rattle.words.specs.Days.{dayIs, yearOf};
 ghost use Rattle.words.specs.Times.{nanosOf, InZone, Timed, InDigits};
 
-const TENS: [u64; 10] = [
-    1,
-    10,
-    100,
-    1_000,
-    10_000,
-    100_000,
-    1_000_000,
-    10_000_000,
-    100_000_000,
-    1_000_000_000,
-];
+// A power where it counts, and 1 where it does not.
+fn factor(counts: bool, power: u64) -> u64
+    ensures { λ r. ⌜ r ≡ cond counts power 1 ⌝ }
+{
+    if counts { power } else { 1 }
+}
 
-// A power of ten.
+// 10^e: the product of those of 10, 10^2, 10^4 and 10^8 whose exponents add up to e. A loop would be shorter, but the compiler may turn it into a table.
 fn ten_to(e: usize) -> u64
     requires { ⌜ e ≤ 9 ⌝ }
     ensures { λ r. ⌜ (r ≡ 10 ^ e) × (r ≤ 1000000000) ⌝ }
 {
-    TENS[e]
+    let ten = factor(e % 2 == 1, 10);
+    let square = factor(e / 2 % 2 == 1, 100);
+    let fourth = factor(e / 4 % 2 == 1, 10_000);
+    let eighth = factor(e / 8 == 1, 100_000_000);
+    ten * square * fourth * eighth
 }
 
 // The nanoseconds of the decimals of a second, or 10^9 where they are too many.

@@ -2,8 +2,9 @@
 
 use crate::{Answer, Call, Case};
 use odl_model::random::{self, Random, TableCase};
-use odl_model::{reals, rows};
+use odl_model::{dates, reals, rows};
 use std::collections::BTreeMap;
+use std::ops::RangeInclusive;
 use std::sync::atomic::{AtomicBool, AtomicU64, Ordering};
 use std::time::Instant;
 
@@ -19,10 +20,20 @@ pub struct Tally {
     /// of labels that were read and then written, and each case of a real that
     /// the writer refused a table for.
     pub reals: BTreeMap<(Call, &'static str), u64>,
+    /// Each case of the calendar and of decimals, of labels and of tables: those
+    /// whose table was given or that were written, and those that were refused
+    /// for it.
+    pub dates: BTreeMap<(Call, dates::Case), u64>,
+    /// Tables that the writer refused at a row of no kind, by the run of
+    /// `NO_KINDS` that it is of.
+    pub no_kinds: [u64; NO_KINDS.len()],
 }
 
 /// The case of a table that is written with a comma between rows.
 pub const ROWS_WRITTEN: &str = "rows written";
+
+/// Runs of kinds that no row has.
+pub const NO_KINDS: [RangeInclusive<u8>; 5] = [0..=0, 7..=9, 16..=19, 24..=98, 100..=255];
 
 impl Tally {
     fn count(&mut self, case: &Case, answer: Answer) {
@@ -37,6 +48,12 @@ impl Tally {
         for name in real_cases(case, code) {
             *self.reals.entry((case.call, name)).or_default() += 1;
         }
+        for date in date_cases(case, code) {
+            *self.dates.entry((case.call, date)).or_default() += 1;
+        }
+        if let Some(run) = run_of_no_kinds(case, answer) {
+            self.no_kinds[run] += 1;
+        }
     }
 
     fn add(&mut self, other: Tally) {
@@ -48,6 +65,12 @@ impl Tally {
         }
         for (key, count) in other.reals {
             *self.reals.entry(key).or_default() += count;
+        }
+        for (key, count) in other.dates {
+            *self.dates.entry(key).or_default() += count;
+        }
+        for (sum, count) in self.no_kinds.iter_mut().zip(other.no_kinds) {
+            *sum += count;
         }
     }
 }
@@ -74,6 +97,22 @@ fn real_cases(case: &Case, code: u8) -> Vec<&'static str> {
     }
 }
 
+fn date_cases(case: &Case, code: u8) -> Vec<dates::Case> {
+    match (case.call, code) {
+        (Call::Read, 0 | 5) => dates::in_label(&case.label),
+        (Call::Write, 0 | 12) => dates::in_table(&case.label, &case.table),
+        _ => Vec::new(),
+    }
+}
+
+fn run_of_no_kinds(case: &Case, (code, place, _): Answer) -> Option<usize> {
+    let kind = case
+        .table
+        .get(place)
+        .filter(|_| case.call == Call::Write && code == 12)?;
+    NO_KINDS.iter().position(|run| run.contains(kind))
+}
+
 /// The case of this number in the run of this seed.
 pub fn case(seed: u64, number: u64) -> Case {
     let mut random = Random::new(
@@ -84,13 +123,13 @@ pub fn case(seed: u64, number: u64) -> Case {
     for _ in 0..4 {
         random.bits();
     }
-    let mut case = match random.below(22) {
-        0..=7 => Case::read(&random::label(&mut random), 0),
-        8 => at_the_written_limit(&mut random),
-        9..=12 => over_table(&mut random, Call::Write),
-        13..=15 => over_table(&mut random, Call::Text),
-        16..=18 => over_table(&mut random, Call::Find),
-        19 => over_table(&mut random, Call::Name),
+    let mut case = match random.below(23) {
+        0..=8 => Case::read(&random::label(&mut random), 0),
+        9 => at_the_written_limit(&mut random),
+        10..=13 => over_table(&mut random, Call::Write),
+        14..=16 => over_table(&mut random, Call::Text),
+        17..=19 => over_table(&mut random, Call::Find),
+        20 => over_table(&mut random, Call::Name),
         _ => Case::over(Call::Rewrite, &rewritten_label(&mut random), &[]),
     };
     case.room = room(&mut random, case.room_needed());

@@ -46,6 +46,12 @@ fn run(minutes: u64, seed: u64) -> Result<(), String> {
     for ((call, case), count) in &tally.reals {
         println!("{call:?} {case}: {count}");
     }
+    for ((call, case), count) in &tally.dates {
+        println!("{call:?} {case:?}: {count}");
+    }
+    for (run, count) in chance::NO_KINDS.iter().zip(tally.no_kinds) {
+        println!("no row is of kind {run:?}: {count}");
+    }
     println!("{} passed, 0 failed", tally.codes.values().sum::<u64>());
     Ok(())
 }

@@ -6,6 +6,7 @@
 //! the plain way of doing a thing: results are built in a `Vec` and copied
 //! into the lent room only once they are known to fit.
 
+pub mod dates;
 mod elements;
 mod gaps;
 pub mod layout;
@@ -157,6 +158,22 @@ fn proper_rows(label: &[u8], table: &[u8]) -> Result<Vec<(usize, table::Row)>, F
         code: code::IMPROPER_TABLE,
         place,
     })
+}
+
+/// The row of this kind that a table is refused at, if it is refused for what
+/// `mended` sets right: with the mended row in its stead the row is proper.
+fn refused_row<const LENGTH: usize>(
+    label: &[u8],
+    table: &[u8],
+    kind: u8,
+    mended: impl Fn([u8; LENGTH]) -> [u8; LENGTH],
+) -> Option<[u8; LENGTH]> {
+    let place = proper_rows(label, table).err()?.place;
+    let row: [u8; LENGTH] = table.get(place..place + LENGTH)?.try_into().ok()?;
+    let mut other = table.to_vec();
+    other[place..place + LENGTH].copy_from_slice(&mended(row));
+    let refused_at = proper_rows(label, &other).err().map(|fault| fault.place);
+    (row[0] == kind && refused_at != Some(place)).then_some(row)
 }
 
 fn check_length(label: &[u8]) -> Result<(), Fault> {

@@ -2,12 +2,12 @@
 //!
 //! Good labels use every kind of value and every kind of gap. Damaged ones
 //! are good ones with a few bytes changed, labels at a limit or just past it,
-//! labels with something much like a sequence of rows, or elements strung
-//! together without regard for grammar. Tables are those of good labels, whole
-//! or damaged, or hold reals that come from no label, each with a row and a name
-//! to ask for.
+//! labels with something much like a sequence of rows, labels with a date that
+//! the calendar has not, or elements strung together without regard for grammar.
+//! Tables are those of good labels, whole or damaged, or hold reals or dates that
+//! come from no label, each with a row and a name to ask for.
 
-use crate::words::Real;
+use crate::words::{days_in_month, is_leap, Real};
 use crate::{read, LONGEST_LABEL};
 
 /// The xorshift* generator: short, and good enough for tests.
@@ -48,12 +48,13 @@ impl Random {
 
 /// A label of any sort.
 pub fn label(random: &mut Random) -> Vec<u8> {
-    match random.below(22) {
+    match random.below(24) {
         0..=7 => good_label(random),
         8..=15 => damaged_label(random),
         16 | 17 => limit_label(random),
         18 => rows_label(random),
         19 => reals_label(random),
+        20 | 21 => dates_label(random),
         _ => strung_elements(random),
     }
 }
@@ -282,7 +283,21 @@ pub fn reals_label(random: &mut Random) -> Vec<u8> {
     let count = 1 + random.below(5);
     let mut maker = Maker::new(random);
     for _ in 0..count {
-        maker.assignment(Maker::reals);
+        maker.assignment(|maker| maker.grouped(Maker::bordering_number));
+    }
+    maker.ended()
+}
+
+/// A label of dates and times, by themselves and in sequences, rows and sets.
+/// Two in three have a last one that is refused.
+pub fn dates_label(random: &mut Random) -> Vec<u8> {
+    let count = 1 + random.below(5);
+    let mut maker = Maker::new(random);
+    for _ in 0..count {
+        maker.assignment(|maker| maker.grouped(Maker::moment));
+    }
+    if !maker.random.one_in(3) {
+        maker.assignment(Maker::refused_moment);
     }
     maker.ended()
 }
@@ -513,7 +528,7 @@ impl<'r> Maker<'r> {
         self.members("(", 1, Self::scalar, ")");
     }
 
-    fn members(&mut self, opening: &str, least: usize, member: fn(&mut Self), closing: &str) {
+    fn members(&mut self, opening: &str, least: usize, member: impl Fn(&mut Self), closing: &str) {
         self.put(opening);
         for at in 0..least + self.random.below(4) {
             if at > 0 {
@@ -524,18 +539,15 @@ impl<'r> Maker<'r> {
         self.put(closing);
     }
 
-    /// Reals at a border, one by itself or some in a sequence, in rows or a set.
-    fn reals(&mut self) {
+    /// Such values, one by itself or some in a sequence, in rows or a set.
+    fn grouped(&mut self, value: fn(&mut Self)) {
+        let row = |maker: &mut Self| maker.members("(", 1, value, ")");
         match self.random.below(5) {
-            0 => self.row_of_reals(),
-            1 => self.members("(", 1, Self::row_of_reals, ")"),
-            2 => self.members("{", 1, Self::bordering_number, "}"),
-            _ => self.bordering_number(),
+            0 => row(self),
+            1 => self.members("(", 1, row, ")"),
+            2 => self.members("{", 1, value, "}"),
+            _ => value(self),
         }
-    }
-
-    fn row_of_reals(&mut self) {
-        self.members("(", 1, Self::bordering_number, ")");
     }
 
     fn bordering_number(&mut self) {
@@ -715,20 +727,12 @@ impl<'r> Maker<'r> {
     }
 
     fn date(&mut self) -> String {
-        let year = 1 + match self.random.one_in(3) {
-            true => self.random.below(9999),
-            false => 1970 + self.random.below(60),
-        };
-        match self.random.below(3) {
-            0 => format!("{year:04}-{:03}", 1 + self.random.below(365)),
-            1 => format!("{year:04}-{}", 1 + self.random.below(365)),
-            _ => {
-                let (month, day) = (1 + self.random.below(12), 1 + self.random.below(28));
-                match self.random.one_in(2) {
-                    true => format!("{year:04}-{month:02}-{day:02}"),
-                    false => format!("{year:04}-{month}-{day}"),
-                }
-            }
+        let date = some_day(self.random);
+        let (year, of_year) = (date.0, day_of_year(date));
+        match self.random.below(4) {
+            0 => format!("{year:04}-{of_year:03}"),
+            1 => format!("{year:04}-{of_year}"),
+            _ => by_month_and_day(self.random, date),
         }
     }
 
@@ -744,7 +748,8 @@ impl<'r> Maker<'r> {
             2 => format!(":{second:02}"),
             _ => {
                 let count = self.random.below(10);
-                format!(":{second:02}.{}000", self.digits(count))
+                let zeros = self.random.pick(&["", "0", "000"]);
+                format!(":{second:02}.{}{zeros}", self.digits(count))
             }
         };
         let zone = self.zone();
@@ -752,6 +757,20 @@ impl<'r> Maker<'r> {
             true => format!("{hour}:{minute}{seconds}{zone}"),
             false => format!("{hour:02}:{minute:02}{seconds}{zone}"),
         }
+    }
+
+    /// A date that the calendar has not, or a time with too many decimals.
+    fn refused_moment(&mut self) {
+        let word = match self.random.below(18) {
+            0 => {
+                let count = self.random.pick(&[9, 9, 10, 14]);
+                let zeros = self.random.pick(&["", "0", "000"]);
+                format!("10:00:59.{}1{zeros}{}", self.digits(count), self.zone())
+            }
+            1..=6 => format!("{}T{}", refused_date(self.random), self.time()),
+            _ => refused_date(self.random),
+        };
+        self.put(&word);
     }
 
     fn zone(&mut self) -> String {
@@ -790,6 +809,73 @@ impl<'r> Maker<'r> {
             _ => self.random.pick(SYMBOLS).to_string(),
         };
         self.put(&format!("'{symbol}'"));
+    }
+}
+
+/// A year, a leap year as often as not.
+fn some_year(random: &mut Random) -> u16 {
+    let year = match random.below(8) {
+        0 => random.pick(&[1, 4, 9996, 9999]),
+        1 => 100 + 100 * random.below(99),
+        2 | 3 => 1 + random.below(9999),
+        _ => 1970 + random.below(60),
+    };
+    match year > 4 && random.one_in(3) {
+        true => (year / 4 * 4) as u16,
+        false => year as u16,
+    }
+}
+
+/// A year, a month and a day of it, mostly its first or its last.
+fn some_day(random: &mut Random) -> (u16, u8, u8) {
+    let year = some_year(random);
+    let month = 1 + random.below(12) as u8;
+    let last = days_in_month(year, month);
+    let between = 2 + random.below(usize::from(last) - 2) as u8;
+    (year, month, random.pick(&[1, between, last]))
+}
+
+fn day_of_year((year, month, day): (u16, u8, u8)) -> u16 {
+    let before = (1..month).map(|month| u16::from(days_in_month(year, month)));
+    before.sum::<u16>() + u16::from(day)
+}
+
+fn by_month_and_day(random: &mut Random, (year, month, day): (u16, u8, u8)) -> String {
+    match random.one_in(2) {
+        true => format!("{year:04}-{month:02}-{day:02}"),
+        false => format!("{year:04}-{month}-{day}"),
+    }
+}
+
+/// A year, a month and a day that the calendar has not, for one fault: mostly
+/// the day after its month's last. A word has digits enough for it.
+fn no_day(random: &mut Random) -> (u16, u8, u8) {
+    let (year, month, day) = some_day(random);
+    let last = days_in_month(year, month);
+    match random.below(30) {
+        0 => (0, month, day),
+        1 => (year, 0, day),
+        2 => (year, 13, day),
+        3 => (year, 14 + random.below(86) as u8, day),
+        4 => (year, month, 0),
+        5 => (year, month, last + 2 + random.below(60) as u8),
+        _ => (year, month, last + 1),
+    }
+}
+
+/// A date with one fault.
+fn refused_date(random: &mut Random) -> String {
+    let year = some_year(random);
+    let days = if is_leap(year) { 366 } else { 365 };
+    match random.below(36) {
+        0 | 1 => format!("{year:04}-{}", days + 1),
+        2 | 3 => format!("{year:04}-{}", days + 2 + random.below(998 - days)),
+        4 => format!("{year:04}-{}", random.pick(&["0", "00", "000"])),
+        5 => format!("0000-{:03}", 1 + random.below(365)),
+        _ => {
+            let date = no_day(random);
+            by_month_and_day(random, date)
+        }
     }
 }
 
@@ -870,11 +956,13 @@ pub struct TableCase {
     pub name: Vec<u8>,
 }
 
-/// A table of a good label, often damaged, or one of reals, with a row and a name
-/// to ask for.
+/// A table of a good label, often damaged, or one of reals or dates, with a row
+/// and a name to ask for.
 pub fn table_case(random: &mut Random) -> TableCase {
-    if random.one_in(8) {
-        return reals_case(random);
+    match random.below(16) {
+        0 | 1 => return table_of_values(random, put_real),
+        2..=4 => return table_of_values(random, put_date),
+        _ => {}
     }
     let mut label = good_label(random);
     // A longer label would only ever give the one answer.
@@ -905,31 +993,39 @@ fn asked_of(random: &mut Random, label: Vec<u8>, table: Vec<u8>) -> TableCase {
     }
 }
 
-/// A table of reals over a label that has names for them and no more. Some have
-/// a real that no proper table has.
-fn reals_case(random: &mut Random) -> TableCase {
+/// Puts the row of a value, which may be one that no proper table has.
+type PutValue = fn(&mut Random, &mut Vec<u8>);
+
+/// A table of such values over a label that has names for them and no more.
+fn table_of_values(random: &mut Random, value: PutValue) -> TableCase {
     let label = b"Name".to_vec();
     let mut table = Vec::new();
     for _ in 0..1 + random.below(4) {
         table.extend([1, 0, 0, 0, 1 + random.below(4) as u8]);
         match random.below(6) {
-            0 => put_reals(random, &mut table, &[20], &[21]),
+            0 => put_values(random, &mut table, &[20], value, &[21]),
             1 => {
-                put_reals(random, &mut table, &[20, 20], &[21]);
-                put_reals(random, &mut table, &[20], &[21, 21]);
+                put_values(random, &mut table, &[20, 20], value, &[21]);
+                put_values(random, &mut table, &[20], value, &[21, 21]);
             }
-            2 => put_reals(random, &mut table, &[22], &[23]),
-            _ => put_real(random, &mut table),
+            2 => put_values(random, &mut table, &[22], value, &[23]),
+            _ => value(random, &mut table),
         }
     }
     table.extend([99, 0, 0]);
     asked_of(random, label, table)
 }
 
-fn put_reals(random: &mut Random, table: &mut Vec<u8>, opening: &[u8], closing: &[u8]) {
+fn put_values(
+    random: &mut Random,
+    table: &mut Vec<u8>,
+    opening: &[u8],
+    value: PutValue,
+    closing: &[u8],
+) {
     table.extend_from_slice(opening);
     for _ in 0..1 + random.below(3) {
-        put_real(random, table);
+        value(random, table);
     }
     table.extend_from_slice(closing);
 }
@@ -948,6 +1044,23 @@ fn put_real(random: &mut Random, table: &mut Vec<u8>) {
     }
 }
 
+/// The row of a date, at times with a time.
+fn put_date(random: &mut Random, table: &mut Vec<u8>) {
+    let (year, month, day) = match random.below(64) {
+        0 => (random.pick(&[10_000, 10_004, u16::MAX]), 12, 31),
+        1..=10 => no_day(random),
+        _ => some_day(random),
+    };
+    let (parts, time) = match random.one_in(3) {
+        true => (3, [23, 59, 58, 0, 0, 0, 1, 255, 255]),
+        false => (1, [0; 9]),
+    };
+    table.extend([12, parts]);
+    table.extend(year.to_be_bytes());
+    table.extend([month, day]);
+    table.extend(time);
+}
+
 /// The table of a label, or the smallest proper one if it has none.
 pub fn table_of(label: &[u8]) -> Vec<u8> {
     let mut table = vec![0; read(label, &mut []).length];
@@ -956,6 +1069,12 @@ pub fn table_of(label: &[u8]) -> Vec<u8> {
         _ => vec![99, 0, 0],
     }
 }
+
+/// Kinds of rows, and those next to them that no row has.
+#[rustfmt::skip]
+const KINDS: [u8; 23] = [
+    0, 1, 2, 3, 4, 5, 6, 7, 9, 10, 12, 14, 15, 16, 19, 20, 21, 22, 23, 24, 98, 99, 100,
+];
 
 fn damage_table(random: &mut Random, table: &mut Vec<u8>, label_length: usize) {
     let starts = row_starts(table);
@@ -971,7 +1090,7 @@ fn damage_table(random: &mut Random, table: &mut Vec<u8>, label_length: usize) {
         starts[which + 1]
     };
     match random.below(9) {
-        0 => table[start] = random.pick(&[0, 1, 2, 3, 4, 5, 6, 10, 12, 14, 15, 20, 21, 22, 23, 99]),
+        0 => table[start] = random.pick(&KINDS),
         1 | 2 => change_body(random, &mut table[start + 1..end]),
         3 => table.truncate(start + random.below(end - start + 1)),
         4 => drop(table.drain(start..end)),

@@ -1,9 +1,9 @@
 //! Which cases of written reals (02 §4) a table shows. A run over random labels
 //! and tables has tried the writer only if it came upon every one of them.
 
-use crate::proper_rows;
 use crate::table::Row;
 use crate::words::Real;
+use crate::{proper_rows, refused_row};
 
 /// A case's name, and whether it is shown.
 type Case<T> = (&'static str, fn(T) -> bool);
@@ -178,20 +178,12 @@ pub fn improper_case(label: &[u8], table: &[u8]) -> Option<&'static str> {
     }
 }
 
-/// The real in the row that the table is refused at, if it is refused for that:
-/// with a proper one in its stead the row is right.
+/// The real in the row that the table is refused at, if it is refused for that.
 fn refused_real(label: &[u8], table: &[u8]) -> Option<Real> {
     const PROPER: [u8; 11] = [11, 0, 0, 0, 0, 0, 0, 0, 1, 0, 0];
-    let place = proper_rows(label, table).err()?.place;
-    let [11, number @ .., high, low] = table.get(place..place + PROPER.len())? else {
-        return None;
-    };
-    let real = Real {
-        number: i64::from_be_bytes(number.try_into().ok()?),
-        power: i16::from_be_bytes([*high, *low]),
-    };
-    let mut mended = table.to_vec();
-    mended[place..place + PROPER.len()].copy_from_slice(&PROPER);
-    let refused_at = proper_rows(label, &mended).err().map(|fault| fault.place);
-    (refused_at != Some(place)).then_some(real)
+    let [_, number @ .., high, low] = refused_row(label, table, PROPER[0], |_| PROPER)?;
+    Some(Real {
+        number: i64::from_be_bytes(number),
+        power: i16::from_be_bytes([high, low]),
+    })
 }

@@ -9,7 +9,7 @@ use crate::elements::Kind;
 pub const LONGEST_NAME: usize = 60;
 const LARGEST_NUMBER: u64 = 999_999_999_999_999_999;
 const LARGEST_POWER: i64 = 999;
-const DECIMALS: usize = 9;
+pub(crate) const DECIMALS: usize = 9;
 
 #[derive(Debug, Clone, Copy, PartialEq, Eq)]
 pub enum Reserved {
@@ -474,7 +474,8 @@ fn month_and_day(year: u16, day_of_year: u16) -> Option<(u8, u8)> {
     None
 }
 
-fn days_in_month(year: u16, month: u8) -> u8 {
+/// The last day of a month; 31 if there is no such month.
+pub(crate) fn days_in_month(year: u16, month: u8) -> u8 {
     match month {
         2 if is_leap(year) => 29,
         2 => 28,
@@ -483,7 +484,7 @@ fn days_in_month(year: u16, month: u8) -> u8 {
     }
 }
 
-fn is_leap(year: u16) -> bool {
+pub(crate) fn is_leap(year: u16) -> bool {
     match (year % 400, year % 100) {
         (0, _) => true,
         (_, 0) => false,

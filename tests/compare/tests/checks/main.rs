@@ -1,6 +1,8 @@
 //! The library against the model and the documents' examples.
 
 mod array;
+mod calendar;
+mod decimals;
 mod documents;
 mod layout;
 mod listed;

@@ -1,21 +1,21 @@
 //! Random cases; ODL_SEED chooses others.
 
 use crate::support::seed;
-use compare::chance::{self, Tally, Until, ROWS_WRITTEN};
+use compare::chance::{self, Tally, Until, NO_KINDS, ROWS_WRITTEN};
 use compare::Call;
 use odl::Row;
 use odl_model::random::Random;
-use odl_model::{reals, rows};
+use odl_model::{dates, reals, rows};
 use std::io::Write;
 
-const CASES: u64 = 150_000;
+const CASES: u64 = 157_000;
 
-/// Every case of the rule for rows, and of written reals, must come up more
-/// often than this.
+/// Every case of the rule for rows, of written reals, of the calendar and
+/// decimals, and of kinds that no row has must come up more often than this.
 const LEAST: u64 = 20;
 
 #[test]
-fn random_cases_agree_and_reach_every_code_and_case_of_rows_and_reals() {
+fn random_cases_agree_and_reach_every_code_and_case() {
     let seed = seed();
     // Past the test's capture, so that it is seen even if the library crashes.
     let _ = writeln!(std::io::stderr(), "random cases with seed {seed}");
@@ -27,6 +27,10 @@ fn random_cases_agree_and_reach_every_code_and_case_of_rows_and_reals() {
         assert!(count > LEAST, "{case}: {count}");
     }
     check_reals(&tally);
+    check_dates(&tally);
+    let no_kinds = NO_KINDS.iter().zip(tally.no_kinds);
+    let rare: Vec<_> = no_kinds.filter(|&(_, count)| count <= LEAST).collect();
+    assert!(rare.is_empty(), "{rare:?}");
 }
 
 /// Reals of tables and of labels were written in every case, and tables were
@@ -36,6 +40,21 @@ fn check_reals(tally: &Tally) {
     let cases = of_tables.map(|case| (Call::Write, case));
     for case in cases.chain(reals::names().map(|case| (Call::Rewrite, case))) {
         let count = tally.reals.get(&case).copied().unwrap_or(0);
+        assert!(count > LEAST, "{case:?}: {count}");
+    }
+}
+
+/// Labels were read and refused in every case of the calendar and of decimals,
+/// and tables were written and refused in every case of the calendar.
+fn check_dates(tally: &Tally) {
+    let of_labels = dates::of_labels()
+        .into_iter()
+        .map(|case| (Call::Read, case));
+    let of_tables = dates::of_tables()
+        .into_iter()
+        .map(|case| (Call::Write, case));
+    for case in of_labels.chain(of_tables) {
+        let count = tally.dates.get(&case).copied().unwrap_or(0);
         assert!(count > LEAST, "{case:?}: {count}");
     }
 }

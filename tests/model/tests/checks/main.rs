@@ -1,6 +1,7 @@
 //! Checks of the model: the examples of the documents, the rulings, and what
 //! must hold of every label and table.
 
+mod calendar;
 mod examples;
 mod layout;
 mod meaning;

@@ -19,4 +19,5 @@ body-len-spec =
     (λ c. search lengths)
     (λ c. search lengths)
     (λ c. search lengths)
+    (λ c. search lengths)
     (λ c. search lengths))
