@@ -230,29 +230,24 @@ fn words_show_their_case() {
     assert_eq!(dates::of_labels().len(), 206);
 }
 
+/// Days in years of each sort, and in the years beside them, which have none.
+const DAYS_OF_YEARS: [(&str, bool, u8, Place, Option<Case>); 8] = [
+    ("0001-002", false, 1, Place::Between, Some(Case::FirstYear)),
+    ("0002-002", false, 1, Place::Between, None),
+    ("9999-365", false, 12, Place::Last, Some(Case::LastYear)),
+    ("9998-365", false, 12, Place::Last, None),
+    ("1900-060", false, 3, Place::First, Some(Case::PlainHundred)),
+    ("1901-060", false, 3, Place::First, None),
+    ("2000-060", true, 2, Place::Last, Some(Case::LeapHundred)),
+    ("2004-060", true, 2, Place::Last, None),
+];
+
 #[test]
 fn years_show_their_case() {
-    use {Place::*, Spelling::*};
-    shows(
-        "0001-002",
-        &[day_case(false, 1, Between, DayOfYear), Case::FirstYear],
-    );
-    shows("0002-002", &[day_case(false, 1, Between, DayOfYear)]);
-    shows(
-        "9999-12-31",
-        &[day_case(false, 12, Last, MonthAndDay), Case::LastYear],
-    );
-    shows("9998-12-31", &[day_case(false, 12, Last, MonthAndDay)]);
-    shows(
-        "1900-060",
-        &[day_case(false, 3, First, DayOfYear), Case::PlainHundred],
-    );
-    shows("1901-060", &[day_case(false, 3, First, DayOfYear)]);
-    shows(
-        "2000-060",
-        &[day_case(true, 2, Last, DayOfYear), Case::LeapHundred],
-    );
-    shows("2004-060", &[day_case(true, 2, Last, DayOfYear)]);
+    for (value, leap, month, place, year) in DAYS_OF_YEARS {
+        let day = day_case(leap, month, place, Spelling::DayOfYear);
+        shows(value, &[day].into_iter().chain(year).collect::<Vec<_>>());
+    }
 }
 
 #[test]
@@ -360,11 +355,8 @@ fn rows() -> Vec<((u16, u8, u8), Case)> {
 fn tables_show_their_case() {
     for ((year, month, day), case) in rows() {
         let row = row(year, month, day);
-        let code = if case < Case::YearZero(Spelling::DayOfYear) {
-            0
-        } else {
-            12
-        };
+        let refused = case >= Case::YearZero(Spelling::DayOfYear);
+        let code = if refused { 12 } else { 0 };
         for table in [table(&[&row]), table(&[&with_time(row)])] {
             assert_eq!(writing(b"A", &table).0.code, code);
             assert_eq!(dates::in_table(b"A", &table), [case]);
