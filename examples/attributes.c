@@ -64,7 +64,7 @@ static size_t row_length(size_t row) {
     case ODL_REAL:
         return 11;
     case ODL_TIME:
-        return 15;
+        return 16;
     case ODL_UNIT:
         return 7;
     case ODL_LAST:
@@ -95,6 +95,20 @@ static void print_text(size_t row) {
     }
 }
 
+/* Prints a time's zone as it was given. */
+static void print_zone(const uint8_t *body) {
+    switch (body[14]) {
+    case ODL_NO_ZONE:
+        printf(", no zone given");
+        break;
+    case ODL_Z:
+        printf(", UTC");
+        break;
+    default:
+        printf(", %d min from UTC", (int)signed_number(body + 12, 2));
+    }
+}
+
 static void print_time(const uint8_t *body) {
     int parts = body[0];
     if (parts & ODL_DATE_ONLY) {
@@ -109,7 +123,7 @@ static void print_time(const uint8_t *body) {
         if (nanoseconds != 0) {
             printf(" and %u ns", nanoseconds);
         }
-        printf(", %d min from UTC", (int)signed_number(body + 12, 2));
+        print_zone(body);
     }
 }
 

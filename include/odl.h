@@ -87,7 +87,8 @@ enum odl_row {
     ODL_REAL = 11,        /* signed number 8, signed power of ten 2 */
     ODL_TIME = 12,        /* parts 1 (see below), year 2, month, day, hour,
                              minute, second 1 each, nanoseconds 4, signed
-                             offset from UTC in minutes 2: 14 */
+                             offset from UTC in minutes 2, zone 1 (see
+                             below): 15 */
     ODL_TEXT = 13,        /* span: 4; odl_text reassembles it */
     ODL_SYMBOL = 14,      /* span: 4 */
     ODL_UNIT = 15,        /* joint 1 (see below), span of the name 4, signed
@@ -100,8 +101,18 @@ enum odl_row {
     ODL_LAST = 99         /* offset just past END: 2; the last row */
 };
 
-/* Parts of a date or time. A part that is absent is all 0. */
+/* Parts of a date or time. A part that is absent is all 0; offset and zone
+ * belong to the time. */
 enum odl_parts { ODL_DATE_ONLY = 1, ODL_TIME_ONLY = 2, ODL_DATE_AND_TIME = 3 };
+
+/* How a time's zone was given: not at all, as Z or z, or signed, +00:00 too;
+ * also 0 where there is no time. The offset of a time with no zone is 0 by rule
+ * (12.3.2.3), but its camera's clock may have stood anywhere. This mark is no
+ * part of the meaning: a written label has Z, or a signed zone where the offset
+ * is not 0, with every time, so a table read back from it has 1 or 2 there. A
+ * mark of 0 or 1 with an offset other than 0, one above 2, or one other than 0
+ * where there is no time, makes a table improper (12). */
+enum odl_zone { ODL_NO_ZONE = 0, ODL_Z = 1, ODL_SIGNED_ZONE = 2 };
 
 /* How a unit is joined to those before it. */
 enum odl_joint { ODL_FIRST = 0, ODL_TIMES = 1, ODL_DIVIDED = 2 };

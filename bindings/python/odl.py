@@ -11,14 +11,23 @@
     real                    decimal.Decimal, exact
     number with units       Quantity
     date                    datetime.date
-    time                    datetime.time with its zone
-    date and time           datetime.datetime with its zone
+    time                    datetime.time with its Zone
+    date and time           datetime.datetime with its Zone
     either, with decimals
-    past the microsecond    Moment
+    past the microsecond    Moment with its Zone
     text                    str, its lines joined
     symbol                  Symbol, a str, folded up
     sequence                list, of lists where it has rows
     set                     Set, a tuple in the written order
+
+A time always has an offset, 0 where the label gives no zone: that is the rule,
+but the camera's clock may have stood anywhere. Its `Zone`, which is the `tzinfo`
+of a time and the `zone` of a Moment, tells these apart:
+
+    value.tzinfo.mark == odl.Mark.NO_ZONE    # value.zone.mark of a Moment
+
+Ask the mark and not the printed time, which has +00:00 for both; and ask it of
+the camera's own label: the canonical one has a zone with every time.
 
 `relabel` gives the canonical label, and `same` tells whether two labels mean
 the same, whatever their layout. All raise `OdlError` with code, place and reason
@@ -32,6 +41,7 @@ The library is `target/libodl.so` at the project's root, made by the script
 import ctypes
 import datetime
 import decimal
+import enum
 import os
 from dataclasses import dataclass
 from typing import Any, List, Optional, Tuple, Union
@@ -39,6 +49,7 @@ from typing import Any, List, Optional, Tuple, Union
 __all__ = [
     "Attribute",
     "Block",
+    "Mark",
     "Moment",
     "OdlError",
     "Pointer",
@@ -46,6 +57,7 @@ __all__ = [
     "Set",
     "Symbol",
     "Unit",
+    "Zone",
     "read",
     "relabel",
     "same",
@@ -126,16 +138,75 @@ class Quantity:
         return f"{self.value} <{units}>"
 
 
+class Mark(enum.IntEnum):
+    """How a zone was given: not at all, as Z, or signed (`+00:00` too)."""
+
+    NO_ZONE = 0
+    Z = 1
+    SIGNED_ZONE = 2
+
+
 @dataclass(frozen=True)
+class Zone(datetime.tzinfo):
+    """The zone of a time: its mark, and how far its clock is ahead of UTC, which
+    only a signed zone says. Its text is "no zone", "Z" or such as "+07:00".
+
+    A datetime.timezone would not do: it has one UTC for all offsets of 0."""
+
+    mark: Mark
+    offset: datetime.timedelta = datetime.timedelta(0)
+
+    def __post_init__(self):
+        object.__setattr__(self, "mark", Mark(self.mark))
+        if self.mark != Mark.SIGNED_ZONE and self.offset:
+            raise ValueError("only a signed zone has an offset other than 0")
+        if abs(self.offset) >= datetime.timedelta(hours=13):
+            raise ValueError("an offset is less than 13 hours")
+
+    def __str__(self):
+        if self.mark != Mark.SIGNED_ZONE:
+            return "Z" if self.mark == Mark.Z else "no zone"
+        minutes = self.offset // datetime.timedelta(minutes=1)
+        hours, rest = divmod(abs(minutes), 60)
+        return f"{'-' if minutes < 0 else '+'}{hours:02}:{rest:02}"
+
+    def __reduce__(self):
+        return type(self), (self.mark, self.offset)
+
+    def utcoffset(self, dt):
+        return self.offset
+
+    def dst(self, dt):
+        return None  # No label tells it.
+
+    def tzname(self, dt):
+        return str(self)
+
+    def fromutc(self, dt):
+        return dt + self.offset
+
+
+@dataclass(frozen=True, eq=False)
 class Moment:
-    """A time, perhaps with its date, that has decimals past the microsecond."""
+    """A time, perhaps with its date, that has decimals past the microsecond.
+    As with a datetime, the mark of its zone does not count in comparisons."""
 
     date: Optional[datetime.date]
     hour: int
     minute: int
     second: int
     nanoseconds: int
-    zone: datetime.timezone
+    zone: Zone
+
+    def _meaning(self):
+        time = self.hour, self.minute, self.second, self.nanoseconds
+        return self.date, time, self.zone.utcoffset(None)
+
+    def __eq__(self, other):
+        return self._meaning() == other._meaning() if isinstance(other, Moment) else NotImplemented
+
+    def __hash__(self):
+        return hash(self._meaning())
 
 
 @dataclass(frozen=True)
@@ -351,7 +422,8 @@ class _Table:
         year, month, day = self.unsigned(2), self.unsigned(1), self.unsigned(1)
         hour, minute, second = self.unsigned(1), self.unsigned(1), self.unsigned(1)
         nanoseconds = self.unsigned(4)
-        zone = datetime.timezone(datetime.timedelta(minutes=self.signed(2)))
+        offset = datetime.timedelta(minutes=self.signed(2))
+        zone = Zone(Mark(self.unsigned(1)), offset)
         date = datetime.date(year, month, day) if parts & 1 else None
         if parts == 1:
             return date

@@ -4,9 +4,11 @@
 """
 
 import contextlib
+import copy
 import datetime
 import io
 import os
+import pickle
 import re
 import tempfile
 import threading
@@ -15,7 +17,8 @@ from decimal import Decimal
 
 import odl
 import weekdays
-from odl import Attribute, Block, Moment, Pointer, Quantity, Set, Symbol, Unit
+import zones
+from odl import Attribute, Block, Mark, Moment, Pointer, Quantity, Set, Symbol, Unit, Zone
 
 ROOT = os.path.join(os.path.dirname(os.path.abspath(__file__)), "..", "..")
 UTC = datetime.timezone.utc
@@ -36,7 +39,8 @@ END\r
 
 
 def zone(minutes):
-    return datetime.timezone(datetime.timedelta(minutes=minutes))
+    """A signed zone."""
+    return Zone(Mark.SIGNED_ZONE, datetime.timedelta(minutes=minutes))
 
 
 def value(written):
@@ -108,7 +112,7 @@ class Reading(unittest.TestCase):
     def test_times_past_the_microsecond(self):
         self.assertEqual(
             value(b"1990-07T23:59:59.999999999Z"),
-            Moment(datetime.date(1990, 1, 7), 23, 59, 59, 999999999, UTC),
+            Moment(datetime.date(1990, 1, 7), 23, 59, 59, 999999999, Zone(Mark.Z)),
         )
         self.assertEqual(value(b"1:2:3.0000001-1"), Moment(None, 1, 2, 3, 100, zone(-60)))
 
@@ -172,6 +176,105 @@ class Reading(unittest.TestCase):
         for thread in threads:
             thread.join()
         self.assertEqual(wrong, [])
+
+
+class Zones(unittest.TestCase):
+    def test_zones_are_told_apart(self):
+        for given, expected, text in [
+            (b"", Zone(Mark.NO_ZONE), "no zone"),
+            (b"Z", Zone(Mark.Z), "Z"),
+            (b"z", Zone(Mark.Z), "Z"),
+            (b"+0", zone(0), "+00:00"),
+            (b"-00:00", zone(0), "+00:00"),
+            (b"+7", zone(420), "+07:00"),
+            (b"-00:30", zone(-30), "-00:30"),
+            (b"-12:59", zone(-779), "-12:59"),
+        ]:
+            for time in [b"10:00", b"1990-07T10:00:00.5", b"2000-366T23:59"]:
+                with self.subTest(time + given):
+                    read = value(time + given)
+                    self.assertEqual(read.tzinfo, expected)
+                    self.assertEqual((str(read.tzinfo), read.tzname()), (text, text))
+                    self.assertEqual(read.utcoffset(), expected.offset)
+            for time in [b"1:2:3.0000001", b"1990-07T1:2:3.123456789"]:
+                with self.subTest(time + given):
+                    self.assertEqual(value(time + given).zone, expected)
+
+    def test_marks(self):
+        given = [value(b"10:00" + zone).tzinfo.mark for zone in (b"", b"Z", b"+0")]
+        self.assertEqual(given, [Mark.NO_ZONE, Mark.Z, Mark.SIGNED_ZONE])
+        self.assertEqual(given, [0, 1, 2])
+        self.assertIs(type(given[0]), Mark)
+
+    def test_a_bare_date_has_no_zone_at_all(self):
+        self.assertIs(type(value(b"1990-07")), datetime.date)
+
+    def test_the_canonical_label_has_a_zone_with_every_time(self):
+        for given, expected in [
+            (b"10:00", Zone(Mark.Z)),
+            (b"10:00z", Zone(Mark.Z)),
+            (b"10:00+0", Zone(Mark.Z)),
+            (b"1990-07T10:00", Zone(Mark.Z)),
+            (b"1990-07T10:00-00:30", zone(-30)),
+        ]:
+            with self.subTest(given):
+                (statement,) = odl.read(odl.relabel(b"A=" + given + b" END"))
+                self.assertEqual(statement.value.tzinfo, expected)
+
+    def test_times_compare_by_their_offset(self):
+        for times in [
+            [b"10:00", b"10:00Z", b"10:00+0"],
+            [b"1990-07T10:00", b"1990-07T10:00Z", b"1990-07T10:00+0"],
+            [b"1:2:3.0000001", b"1:2:3.0000001Z", b"1:2:3.0000001+0"],
+        ]:
+            none, utc, signed = (value(time) for time in times)
+            self.assertEqual((none, utc), (utc, signed))
+            self.assertEqual(len({none, utc, signed}), 1)
+            self.assertNotEqual(none, value(times[0] + b"+1"))
+        self.assertLess(value(b"10:00+1"), value(b"10:00"))
+        self.assertNotEqual(value(b"1:2:3.0000001"), value(b"1:2:3.0000002"))
+        self.assertNotEqual(value(b"1:2:3.0000001"), value(b"1990-07T1:2:3.0000001"))
+        self.assertNotEqual(value(b"1:2:3.0000001"), "1:2:3.0000001")
+
+    def test_arithmetic(self):
+        none, east = value(b"1990-07T10:00"), value(b"1990-07T10:00+7:30")
+        self.assertEqual(none - east, datetime.timedelta(hours=7, minutes=30))
+        later = none + datetime.timedelta(days=1)
+        self.assertEqual(later.tzinfo, Zone(Mark.NO_ZONE))
+        self.assertEqual(none.isoformat(), "1990-01-07T10:00:00+00:00")
+        self.assertEqual(value(b"10:00-0:30").isoformat(), "10:00:00-00:30")
+        moved = none.astimezone(east.tzinfo)
+        self.assertEqual((moved.hour, moved.minute, moved.tzinfo), (17, 30, zone(450)))
+        self.assertEqual(moved, none)
+        self.assertEqual(east.astimezone(UTC).isoformat(), "1990-01-07T02:30:00+00:00")
+        self.assertEqual(none.timestamp(), 631706400)
+        self.assertIsNone(none.dst())
+
+    def test_zones_compare_by_mark_and_offset(self):
+        none, utc = Zone(Mark.NO_ZONE), Zone(Mark.Z)
+        self.assertEqual(len({none, utc, zone(0), zone(30), zone(-30)}), 5)
+        self.assertEqual(none, Zone(Mark.NO_ZONE))
+        self.assertEqual(hash(zone(30)), hash(zone(30)))
+        self.assertNotEqual(utc, UTC)
+        self.assertIn("NO_ZONE", repr(value(b"10:00")))
+
+    def test_zones_are_kept_when_copied(self):
+        for given in [b"10:00", b"1990-07T10:00Z", b"10:00+0", b"10:00-0:30"]:
+            read = value(given)
+            protocols = range(pickle.HIGHEST_PROTOCOL + 1)
+            pickled = (pickle.loads(pickle.dumps(read, number)) for number in protocols)
+            for copied in [copy.copy(read), copy.deepcopy(read), *pickled]:
+                self.assertEqual((copied, copied.tzinfo), (read, read.tzinfo))
+        moment = value(b"1:2:3.0000001+0")
+        self.assertEqual(pickle.loads(pickle.dumps(moment)).zone, zone(0))
+
+    def test_zones_cannot_be_changed_or_made_wrong(self):
+        with self.assertRaises(AttributeError):
+            value(b"10:00").tzinfo.mark = Mark.Z
+        for mark, minutes in [(Mark.NO_ZONE, 1), (Mark.Z, -30), (3, 0), (Mark.SIGNED_ZONE, -780)]:
+            with self.assertRaises(ValueError):
+                Zone(mark, datetime.timedelta(minutes=minutes))
+        self.assertIs(Zone(2, datetime.timedelta(minutes=779)).mark, Mark.SIGNED_ZONE)
 
 
 class Refusing(unittest.TestCase):
@@ -300,6 +403,8 @@ class Comparing(unittest.TestCase):
             (b"1E18", b"1000000000000000000.0"),
             (b"1990-158", b"1990-06-07"),
             (b"10:00", b"10:00:00.000Z"),
+            (b"10:00", b"10:00+00:00"),
+            (b"10:00z", b"10:00-0"),
             (b"-2 <DEG/SEC**1>", b"-2<deg/sec>"),
             (b'"Jupi-\n  ter\r\n\tring"', b'"Jupiter ring"'),
             (b'"near\ninfrared"', b'"near infrared"'),
@@ -409,6 +514,21 @@ class Listed(unittest.TestCase):
         self.assertGreater(count, 200)
 
 
+def run(program, labels):
+    """The program's status, its files and its lines; there is no file for None."""
+    with tempfile.TemporaryDirectory() as directory:
+        files = []
+        for label in labels:
+            files.append(os.path.join(directory, f"{len(files)}.lbl"))
+            if label is not None:
+                with open(files[-1], "wb") as stream:
+                    stream.write(label)
+        printed = io.StringIO()
+        with contextlib.redirect_stdout(printed):
+            status = program.main(files)
+    return status, files, printed.getvalue().splitlines()
+
+
 class Weekdays(unittest.TestCase):
     def test_counters(self):
         for label, expected in [
@@ -427,17 +547,8 @@ class Weekdays(unittest.TestCase):
             self.assertEqual(weekdays.counter(label), expected)
 
     def test_program(self):
-        with tempfile.TemporaryDirectory() as directory:
-            files = []
-            for label in [b"START_TIME=1979-07-08 END", b"END", b"END;", None]:
-                files.append(os.path.join(directory, f"{len(files)}.lbl"))
-                if label is not None:
-                    with open(files[-1], "wb") as stream:
-                        stream.write(label)
-            printed = io.StringIO()
-            with contextlib.redirect_stdout(printed):
-                status = weekdays.main(files)
-        lines = printed.getvalue().splitlines()
+        labels = [b"START_TIME=1979-07-08 END", b"END", b"END;", None]
+        status, files, lines = run(weekdays, labels)
         self.assertEqual(status, 1)
         self.assertEqual([line.split()[-1] for line in lines[:8]], list("00000011"))
         self.assertEqual(
@@ -445,6 +556,41 @@ class Weekdays(unittest.TestCase):
         )
         self.assertTrue(lines[9].startswith(f"refused {files[3]}: "))
         self.assertEqual(len(lines), 10)
+
+
+class ZonesOfSessions(unittest.TestCase):
+    def test_zones(self):
+        for label, expected in [
+            (b"START_TIME=1979-07-08T05:19:11 END", "no zone"),
+            (b"start_time=1979-07-08T05:19:11z END", "Z"),
+            (b"START_TIME=1979-07-08T05:19:11+7 END", "+07:00"),
+            (b"START_TIME=1979-07-08T05:19:11-0 END", "+00:00"),
+            (b"START_TIME=1990-158T1:2:3.123456789 END", "no zone"),
+            (b"START_TIME=1990-158T1:2:3.123456789-0:30 END", "-00:30"),
+            (b"START_TIME=10:00 START_TIME=10:00Z END", "no zone"),
+            (b"START_TIME=1990-07 START_TIME=10:00Z END", "no time"),
+            (b"START_TIME=(10:00) END", "no time"),
+            (b'START_TIME="10:00" END', "no time"),
+            (b"^START_TIME=10:00 END", "no time"),
+            (b"OBJECT=X START_TIME=10:00 END_OBJECT END", "no time"),
+            (b"END", "no time"),
+        ]:
+            self.assertEqual(zones.zone(label), expected)
+
+    def test_program(self):
+        labels = [b"START_TIME=10:00 END", b"END;", b"START_TIME=10:00-7 END", None]
+        status, files, lines = run(zones, labels)
+        self.assertEqual(status, 1)
+        self.assertEqual(lines[:2], [f"{files[0]}: no zone", f"{files[2]}: -07:00"])
+        self.assertEqual(
+            lines[2], f"refused {files[1]}: code 9 at 0: END without spacing or a line end after it"
+        )
+        self.assertTrue(lines[3].startswith(f"refused {files[3]}: "))
+        self.assertEqual(len(lines), 4)
+
+    def test_status_when_none_is_refused(self):
+        for program in [weekdays, zones]:
+            self.assertEqual(run(program, [b"START_TIME=1990-07T10:00 END"])[0], 0)
 
 
 if __name__ == "__main__":

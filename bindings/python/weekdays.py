@@ -11,18 +11,14 @@ import datetime
 import sys
 
 import odl
+import sessions
 
 WEEKDAYS = ["Monday", "Tuesday", "Wednesday", "Thursday", "Friday", "Saturday", "Sunday"]
 
 
 def counter(label: bytes) -> str:
     """The weekday's name, or "undated"."""
-    values = (
-        statement.value
-        for statement in odl.read(label)
-        if isinstance(statement, odl.Attribute) and statement.name == "START_TIME"
-    )
-    value = next(values, None)
+    value = sessions.start_time(label)
     if isinstance(value, odl.Moment):
         value = value.date
     # A datetime is a date too; a time of day is not.
@@ -31,19 +27,12 @@ def counter(label: bytes) -> str:
 
 def main(files) -> int:
     counts = dict.fromkeys(WEEKDAYS + ["undated"], 0)
-    refused = []
-    for file in files:
-        try:
-            with open(file, "rb") as stream:
-                label = stream.read(odl.LONGEST_LABEL + 1)
-            counts[counter(label)] += 1
-        except (OSError, odl.OdlError) as error:
-            refused.append(f"{file}: {error}")
+    answers, refused = sessions.ask(files, counter)
+    for _, name in answers:
+        counts[name] += 1
     for name, count in counts.items():
         print(f"{name:<10}{count:>8}")
-    for line in refused:
-        print(f"refused {line}")
-    return 1 if refused else 0
+    return sessions.end(refused)
 
 
 if __name__ == "__main__":

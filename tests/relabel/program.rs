@@ -156,6 +156,7 @@ fn listed() -> Vec<(Vec<u8>, String)> {
     list.extend(about_as_long_as_may_be());
     list.extend(rows());
     list.extend(reals());
+    list.extend(zones());
     list
 }
 
@@ -184,6 +185,24 @@ fn reals() -> [(Vec<u8>, String); 2] {
     [
         (input.into(), written.to_string()),
         (written.into(), written.to_string()),
+    ]
+}
+
+/// A time is written with Z, or with a signed zone if its offset is not 0,
+/// however its zone was given (02 §6); the written label is written as it is.
+fn zones() -> [(Vec<u8>, String); 5] {
+    let input = "A=(10:00,10:00Z,10:00z,10:00+0,10:00-00:00,10:00+7,10:00-0:30,1990-158) \
+        B={1990-158T10:00,1990-158t10:00z,1990-158T10:00-0,1990-158T10:00-12:59} END";
+    let written = "A = (10:00:00Z, 10:00:00Z, 10:00:00Z, 10:00:00Z, 10:00:00Z, \
+        10:00:00+07:00, 10:00:00-00:30, 1990-06-07)\r\n\
+        B = {1990-06-07T10:00:00Z, 1990-06-07T10:00:00Z, 1990-06-07T10:00:00Z, \
+        1990-06-07T10:00:00-12:59}\r\nEND\r\n";
+    [
+        (input.into(), written.to_string()),
+        (written.into(), written.to_string()),
+        refused("A=1990-158Z END", 4, 2),
+        refused("A=10:00+13 END", 5, 2),
+        refused("A=10:00 Z END", 6, 10),
     ]
 }
 

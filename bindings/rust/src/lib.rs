@@ -8,7 +8,7 @@ mod same;
 
 pub use error::{Code, Error};
 pub use label::{find, name, read, relabel, text, write, Entry, Label, Rows, Table};
-pub use row::{Date, Join, Moment, Name, Real, Row, Text, Time};
+pub use row::{Date, Join, Moment, Name, Real, Row, Text, Time, Zone};
 pub use same::{same_meaning, Refused};
 
 /// No label, read or written, is longer than this many bytes.

@@ -84,14 +84,42 @@ pub struct Date {
     pub day: u8,
 }
 
+/// The zone that a time was given with. It is no part of a label's meaning but
+/// for its offset: the canonical label has Z, or a signed zone where the offset
+/// is not 0, with every time.
+#[derive(Debug, Clone, Copy, PartialEq, Eq, Hash)]
+pub enum Zone {
+    /// None was given: the offset is 0 by rule, but the camera's clock may have
+    /// stood anywhere.
+    NotGiven,
+    /// Z was given.
+    Utc,
+    /// A signed zone was given: the minutes that the clock is ahead of UTC, 0
+    /// for `+00:00`.
+    Signed(i16),
+}
+
+impl Zone {
+    /// The minutes that the clock is taken to be ahead of UTC; 0, by rule, where
+    /// no zone was given.
+    pub fn offset(self) -> i16 {
+        match self {
+            Zone::NotGiven | Zone::Utc => 0,
+            Zone::Signed(minutes) => minutes,
+        }
+    }
+}
+
+/// Compared as it was given: a time with no zone is not equal to the same one
+/// in UTC, although both mean the same
+/// ([`same_meaning`](crate::same_meaning)).
 #[derive(Debug, Clone, Copy, PartialEq, Eq, Hash)]
 pub struct Time {
     pub hour: u8,
     pub minute: u8,
     pub second: u8,
     pub nanoseconds: u32,
-    /// Minutes that the clock is ahead of UTC. Without a zone it is UTC.
-    pub offset: i16,
+    pub zone: Zone,
 }
 
 #[derive(Debug, Clone, Copy, PartialEq, Eq, Hash)]
@@ -225,12 +253,22 @@ impl Bytes<'_> {
             minute: self.byte()?,
             second: self.byte()?,
             nanoseconds: u32::from_be_bytes(self.take()?),
-            offset: i16::from_be_bytes(self.take()?),
+            zone: self.zone()?,
         };
         match parts {
             1 => Some(Moment::Date(date)),
             2 => Some(Moment::Time(time)),
             3 => Some(Moment::DateTime(date, time)),
+            _ => None,
+        }
+    }
+
+    fn zone(&mut self) -> Option<Zone> {
+        let offset = i16::from_be_bytes(self.take()?);
+        match (self.byte()?, offset) {
+            (0, 0) => Some(Zone::NotGiven),
+            (1, 0) => Some(Zone::Utc),
+            (2, minutes) => Some(Zone::Signed(minutes)),
             _ => None,
         }
     }

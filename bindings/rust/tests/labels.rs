@@ -1,6 +1,6 @@
 //! The crate's types on labels whose answers stand in the documents.
 
-use odl::{Code, Date, Error, Join, Label, Moment, Real, Row, Time};
+use odl::{Code, Date, Error, Join, Label, Moment, Real, Row, Time, Zone};
 
 fn rows(label: &[u8]) -> Vec<String> {
     let label = odl::read(label).unwrap();
@@ -53,7 +53,7 @@ fn rows_are_decoded() {
                 minute: 24,
                 second: 12,
                 nanoseconds: 0,
-                offset: 0
+                zone: Zone::NotGiven
             }
         )
     );
@@ -74,7 +74,7 @@ fn values_have_their_types() {
         "Moment(Date(Date { year: 1990, month: 1, day: 7 }))"
     );
     assert!(value("10:00-00:30").contains("hour: 10, minute: 0, second: 0"));
-    assert!(value("10:00-00:30").contains("offset: -30"));
+    assert!(value("10:00-00:30").contains("zone: Signed(-30)"));
     assert_eq!(value("{}"), "Set EndSet");
     assert_eq!(
         value("((1),(2))"),

@@ -10,7 +10,9 @@ use rows::Op;
 use rows::Row;
 use rows::row_at;
 use words::Moment;
+use words::NO_ZONE;
 use words::Real;
+use words::ZONE_Z;
 
 // The label's bytes from a to b, as many as there are.
 fn print_span(label: &[u8], a: usize, b: usize) {
@@ -60,6 +62,14 @@ fn print_date(t: Moment) {
     print_padded(t.day as u64, 100);
 }
 
+fn print_mark(mark: u8) {
+    match mark {
+        NO_ZONE => print_words(b" no zone"),
+        ZONE_Z => print_words(b" Z"),
+        _ => print_words(b" signed zone"),
+    }
+}
+
 fn print_time(t: Moment) {
     print_padded(t.hour as u64, 100);
     io::write_all(1, b":");
@@ -70,6 +80,7 @@ fn print_time(t: Moment) {
     print_padded(t.nanoseconds as u64, 1_000_000_000);
     io::write_all(1, b" offset ");
     print_signed(t.west, t.offset as u64);
+    print_mark(t.mark);
 }
 
 fn print_moment(t: Moment) {

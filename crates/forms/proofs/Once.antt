@@ -7,7 +7,7 @@ use mathlib.Core.List.{List}
 use native.Mathlib.Omega.{arith}
 use lib.ListN.{length, getD}
 use Rattle.rules.specs.Bytes.{alnum, front}
-use Rattle.rules.specs.Values.{Written, an-identifier, a-whole, a-based, a-decimal, a-date, a-time, a-date-time, a-range}
+use Rattle.rules.specs.Values.{Zone as ZoneR, no-zone as no-zoneR, utc, signed-zone, Written, an-identifier, a-whole, a-based, a-decimal, a-date, a-time, a-date-time, a-range}
 use Rattle.rules.specs.Modes.{base}
 use Rattle.rules.proofs.Machine.Patterns.{G}
 use Rattle.rules.proofs.Machine.Words.{g-word}
@@ -19,15 +19,28 @@ use Rattle.forms.specs.declared.Date.the-variants.{InYear, InMonth}
 use Rattle.forms.specs.declared.Clock.{Clock}
 use Rattle.forms.specs.declared.Stamp.{Stamp}
 use Rattle.forms.specs.declared.Stamp.the-variants.{Undated, Dated}
+use Rattle.forms.specs.declared.Zone.{Zone}
+use Rattle.forms.specs.declared.Zone.the-variants.{NoZone, Utc, Offset}
 use Rattle.forms.specs.declared.Form.{Form}
 use Rattle.forms.specs.declared.Form.the-variants.{NoForm, Name, Whole, Radix, Decimal, Day, Moment}
-use Rattle.forms.specs.Laid.{piece, absent, DigitsTo, Behind, behind, SignTo, a-minus, a-plus, no-sign, RadixTo, radix-to, BasedTo, based-to, MantissaTo, pointed-to, bare-to, PowerTo, power-to, MonthTo, month-to, DateTo, year-to, day-to, StampTo, undated-to, dated-to, HourTo, hour-to, MinuteTo, minute-to, SecondTo, second-to, ClockTo, minutes-to, seconds-to, decimals-to, Unzoned, unzoned, OffsetTo, offset-to, Laid, no-form, name, whole, radix, unscaled, scaled, day, no-offset, by-hour, by-minute}
-use Rattle.forms.specs.Forms.{written, FormAt}
+use Rattle.forms.specs.Laid.{piece, absent, DigitsTo, Behind, behind, SignTo, a-minus, a-plus, no-sign, RadixTo, radix-to, BasedTo, based-to, MantissaTo, pointed-to, bare-to, PowerTo, power-to, MonthTo, month-to, DateTo, year-to, day-to, StampTo, undated-to, dated-to, HourTo, hour-to, MinuteTo, minute-to, SecondTo, second-to, ClockTo, minutes-to, seconds-to, decimals-to, OffsetTo, offset-to, Laid, no-form, name, whole, radix, unscaled, scaled, day, no-zone, by-Z, by-hour, by-minute}
+use Rattle.forms.specs.Forms.{zoneOf, written, FormAt}
 
 -- ---- which form
 
 data Which : Type 0 where
-  nothing names wholes radices decimals days moments : Which
+  nothing names wholes radices decimals days locals utcs offsets : Which
+
+-- a time by its zone
+abbrev whichZone : Zone → Which
+whichZone NoZone = locals
+whichZone Utc = utcs
+whichZone (Offset west h n) = offsets
+
+abbrev zoneKind : ZoneR → Which
+zoneKind no-zoneR = locals
+zoneKind utc = utcs
+zoneKind (signed-zone west h n) = offsets
 
 abbrev which : Form → Which
 which NoForm = nothing
@@ -36,7 +49,7 @@ which (Whole neg ds) = wholes
 which (Radix r neg ds) = radices
 which (Decimal neg ds fs below x) = decimals
 which (Day d) = days
-which (Moment s c z) = moments
+which (Moment s c z) = whichZone z
 
 abbrev kind : Option Written → Which
 kind none = nothing
@@ -45,8 +58,8 @@ kind (some (a-whole n)) = wholes
 kind (some (a-based r neg ds)) = radices
 kind (some (a-decimal neg ds fs z)) = decimals
 kind (some (a-date d)) = days
-kind (some (a-time t)) = moments
-kind (some (a-date-time d t)) = moments
+kind (some (a-time t)) = zoneKind (t .zone)
+kind (some (a-date-time d t)) = zoneKind (t .zone)
 kind (some (a-range lo hi)) = nothing
 
 -- whether a time has a date
@@ -74,6 +87,11 @@ dates (Decimal neg ds fs below x) = 0
 dates (Day d) = 0
 dates (Moment s c z) = isDated s
 
+zone-is : (w : List ℕ) (z : Zone) → zoneKind (zoneOf w z) ≡ whichZone z
+zone-is w NoZone = refl
+zone-is w Utc = refl
+zone-is w (Offset west h n) = refl
+
 kind-is : (w : List ℕ) (r : Form) → kind (written w r) ≡ which r
 kind-is w NoForm = refl
 kind-is w Name = refl
@@ -81,8 +99,8 @@ kind-is w (Whole neg ds) = refl
 kind-is w (Radix r neg ds) = refl
 kind-is w (Decimal neg ds fs below x) = refl
 kind-is w (Day d) = refl
-kind-is w (Moment Undated c z) = refl
-kind-is w (Moment (Dated d) c z) = refl
+kind-is w (Moment Undated c z) = zone-is w z
+kind-is w (Moment (Dated d) c z) = zone-is w z
 
 dated-is : (w : List ℕ) (r : Form) → dated (written w r) ≡ dates r
 dated-is w NoForm = refl
@@ -243,10 +261,6 @@ module _ (w : List ℕ) where
       let q = sign-once (place h) x x′ in
       λ i. ((h i .0, q i .0), q i .1)
 
-  -- an offset has a sign
-  offset-there : {s s′ : Stamp} {c c′ : Clock} {west : Bool} {a : ℕ} → isDated s ≡ isDated s′ → Unzoned w s c → OffsetTo w s′ c′ west a → ⊥
-  offset-there k (unzoned t x) (offset-to t′ x′ l) = let h = place (clock-once k t t′) in omega (arith, place (sign-once h x x′))
-
   -- ---- all forms
 
   -- what is laid, by its kind
@@ -258,11 +272,12 @@ module _ (w : List ℕ) where
     see-unscaled : {neg : Bool} {ds fs : Span} {e : ℕ} → MantissaTo w neg ds fs e → e ≡ length w → Seen decimals (Decimal neg ds fs false absent)
     see-scaled : {neg below : Bool} {ds fs : Span} {a e : ℕ} → PowerTo w neg ds fs below a → DigitsTo w a e → Seen decimals (Decimal neg ds fs below (piece a e))
     see-day : {d : Date} {e : ℕ} → DateTo w d e → Seen days (Day d)
-    see-local : {s : Stamp} {c : Clock} → Unzoned w s c → Seen moments (Moment s c (record { west = false; hours = absent; minutes = absent }))
+    see-local : {s : Stamp} {c : Clock} {e : ℕ} → ClockTo w s c e → Seen locals (Moment s c NoZone)
+    see-utc : {s : Stamp} {c : Clock} {a : ℕ} → Behind (ClockTo w s c) a → Seen utcs (Moment s c Utc)
     see-hour : {s : Stamp} {c : Clock} {west : Bool} {a e : ℕ} → OffsetTo w s c west a → DigitsTo w a e → e ≡ length w →
-        Seen moments (Moment s c (record { west = west; hours = piece a e; minutes = absent }))
+        Seen offsets (Moment s c (Offset west (piece a e) absent))
     see-minute : {s : Stamp} {c : Clock} {west : Bool} {a e b : ℕ} → OffsetTo w s c west a → DigitsTo w a e → DigitsTo w (e + 1) b →
-        Seen moments (Moment s c (record { west = west; hours = piece a e; minutes = piece (e + 1) b }))
+        Seen offsets (Moment s c (Offset west (piece a e) (piece (e + 1) b)))
 
   seen : {r : Form} → Laid w r → Seen (which r) r
   seen no-form = see-nothing
@@ -272,7 +287,8 @@ module _ (w : List ℕ) where
   seen (unscaled m q) = see-unscaled m q
   seen (scaled p d) = see-scaled p d
   seen (day d) = see-day d
-  seen (no-offset u) = see-local u
+  seen (no-zone t q) = see-local t
+  seen (by-Z t q) = see-utc t
   seen (by-hour o d q) = see-hour o d q
   seen (by-minute o d d′) = see-minute o d d′
 
@@ -300,24 +316,19 @@ module _ (w : List ℕ) where
       let q = digits-once (place a) d d′ in
       λ i. Decimal (a i .0 .0 .0) (a i .0 .0 .1) (a i .0 .0 .2) (a i .0 .1) (piece (a i .1) (q i))
   seen-once (see-day d) (see-day d′) v = let a = date-once d d′ in λ i. Day (a i .0)
-  seen-once (see-local (unzoned t x)) (see-local (unzoned t′ x′)) v =
-      let a = clock-once v t t′ in
-      λ i. Moment (a i .0 .0) (a i .0 .1) (record { west = false; hours = absent; minutes = absent })
-  seen-once (see-local u) (see-hour o d q) v = absurd (offset-there v u o)
-  seen-once (see-local u) (see-minute o d f) v = absurd (offset-there v u o)
-  seen-once (see-hour o d q) (see-local u) v = absurd (offset-there (sym v) u o)
-  seen-once (see-minute o d f) (see-local u) v = absurd (offset-there (sym v) u o)
+  seen-once (see-local t) (see-local t′) v = let a = clock-once v t t′ in λ i. Moment (a i .0 .0) (a i .0 .1) NoZone
+  seen-once (see-utc (behind t)) (see-utc (behind t′)) v = let a = clock-once v t t′ in λ i. Moment (a i .0 .0) (a i .0 .1) Utc
   seen-once (see-hour o d q) (see-hour o′ d′ q′) v =
       let a = offset-once v o o′ in
       let b = digits-once (place a) d d′ in
-      λ i. Moment (a i .0 .0 .0) (a i .0 .0 .1) (record { west = a i .0 .1; hours = piece (a i .1) (b i); minutes = absent })
+      λ i. Moment (a i .0 .0 .0) (a i .0 .0 .1) (Offset (a i .0 .1) (piece (a i .1) (b i)) absent)
   seen-once (see-hour o d q) (see-minute o′ d′ f) v = absurd (minute-there v o d q o′ d′ f)
   seen-once (see-minute o d f) (see-hour o′ d′ q) v = absurd (minute-there (sym v) o′ d′ q o d f)
   seen-once (see-minute o d f) (see-minute o′ d′ f′) v =
       let a = offset-once v o o′ in
       let b = digits-once (place a) d d′ in
       let c = digits-once (further b) f f′ in
-      λ i. Moment (a i .0 .0 .0) (a i .0 .0 .1) (record { west = a i .0 .1; hours = piece (a i .1) (b i); minutes = piece (b i + 1) (c i) })
+      λ i. Moment (a i .0 .0 .0) (a i .0 .0 .1) (Offset (a i .0 .1) (piece (a i .1) (b i)) (piece (b i + 1) (c i)))
 
   pub laid-once : {r r′ : Form} → Laid w r → Laid w r′ → written w r ≡ written w r′ → r ≡ r′
   laid-once {r} {r′} l l′ v =

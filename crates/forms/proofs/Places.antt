@@ -1,14 +1,14 @@
 -- The places that the code hands on, from the bytes that it has tested.
-use Prim.Native.Nat.{ℕ, _+_, _≤_}
+use Prim.Native.Nat.{ℕ, _+_}
 use mathlib.Core.Bool.{true, false}
 use mathlib.Core.Path.{_≡_, sym, _∙_}
 use mathlib.Core.List.{List}
 use native.Mathlib.Omega.{arith}
-use lib.ListN.{length, getD, List·getD-eq-default}
+use lib.ListN.{getD}
 use Rattle.classes.specs.Places.{ByteAt}
 use Rattle.forms.specs.declared.Clock.{Clock}
 use Rattle.forms.specs.declared.Stamp.{Stamp}
-use Rattle.forms.specs.Laid.{DigitsTo, a-minus, a-plus, no-sign, ClockTo, Unzoned, unzoned, OffsetTo, offset-to}
+use Rattle.forms.specs.Laid.{DigitsTo, a-minus, a-plus, ClockTo, OffsetTo, offset-to}
 
 module _ (w : List ℕ) (at x k : ℕ) (y : ByteAt w at x) where
   pub byte-is : x ≡ k → getD w at 0 ≡ k
@@ -24,18 +24,6 @@ digits-first w from at q d = rw q at d
 -- ---- the offset of a time
 
 module _ (w : List ℕ) (s : Stamp) (c : Clock) (at : ℕ) (t : ClockTo w s c at) where
-  no-offset-byte : (k : ℕ) → (k ≡ 45 → ⊥) → (k ≡ 43 → ⊥) → getD w at 0 ≡ k → Unzoned w s c
-  no-offset-byte k n n₂ q = unzoned t (no-sign (λ z. n (sym q ∙ z)) (λ z. n₂ (sym q ∙ z)))
-
-  pub zone-over : at ≡ length w → Unzoned w s c
-  zone-over h = let l : length w ≤ at = omega arith in no-offset-byte 0 (λ z. omega arith) (λ z. omega arith) (List·getD-eq-default w 0 l)
-
-  pub zone-Z : getD w at 0 ≡ 90 → Unzoned w s c
-  zone-Z = no-offset-byte 90 (λ z. omega arith) (λ z. omega arith)
-
-  pub zone-z : getD w at 0 ≡ 122 → Unzoned w s c
-  zone-z = no-offset-byte 122 (λ z. omega arith) (λ z. omega arith)
-
   pub zone-minus : getD w at 0 ≡ 45 → OffsetTo w s c true (at + 1)
   zone-minus q = offset-to t (a-minus q) (omega arith)
 

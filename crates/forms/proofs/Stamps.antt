@@ -13,9 +13,10 @@ use Rattle.rules.proofs.Machine.Words.{g-offset, g-zone, g-seconds, g-minutes, 
 use Rattle.classes.specs.Places.{part, EndsAt, ByteAt}
 use Rattle.forms.specs.declared.Clock.{Clock}
 use Rattle.forms.specs.declared.Stamp.{Stamp}
+use Rattle.forms.specs.declared.Zone.the-variants.{NoZone, Utc, Offset as SignedZone}
 use Rattle.forms.specs.declared.Form.{Form}
 use Rattle.forms.specs.declared.Form.the-variants.{NoForm, Moment, Day}
-use Rattle.forms.specs.Laid.{DigitsTo, DateTo, Unzoned, OffsetTo, day, no-offset, by-hour, by-minute}
+use Rattle.forms.specs.Laid.{DigitsTo, Behind, DateTo, ClockTo, OffsetTo, day, no-zone, by-Z, by-hour, by-minute}
 use Rattle.forms.specs.Forms.{timeOf, FormAt, on, stamped, dateOf, atSecond, g-decimals, inMonth}
 use Rattle.forms.specs.declared.Span.{Span}
 use Rattle.forms.specs.declared.Date.{Date}
@@ -38,7 +39,7 @@ module _ (w : List ℕ) (s : Stamp) (c : Clock) (west : Bool) (at : ℕ) where
   offset-few e t r h k = r-short w at e r (sym h ∙ not-true t k)
 
   pub offset-hour : (e : ℕ) (t : Bool) → OffsetTo w s c west at → EndsAt (front digit) w at e → t ≡ between 1 2 (e - at) → not t ≡ false → e ≡ length w →
-      Offset (Moment s c (record { west = west; hours = record { from = at; upto = e }; minutes = record { from = 0; upto = 0 } }))
+      Offset (Moment s c (SignedZone west (record { from = at; upto = e }) (record { from = 0; upto = 0 })))
   offset-hour e t o r h k q = r-run w at e _ r (sym h ∙ not-false t k) (r-nil w e _ q (r-stop w e _ q refl (by-hour o r q)))
 
   pub offset-open : (e x : ℕ) (t : Bool) → EndsAt (front digit) w at e → t ≡ between 1 2 (e - at) → not t ≡ false → (e ≡ length w → ⊥) → ByteAt w e x → (x ≡ 58 → ⊥) → Offset NoForm
@@ -61,7 +62,7 @@ module _ (w : List ℕ) (s : Stamp) (c : Clock) (west : Bool) (at : ℕ) where
 
   pub offset-both : (e x f : ℕ) (t u : Bool) → OffsetTo w s c west at → EndsAt (front digit) w at e → t ≡ between 1 2 (e - at) → not t ≡ false → (e ≡ length w → ⊥) → ByteAt w e x → x ≡ 58 →
       EndsAt (front digit) w (e + 1) f → u ≡ between 1 2 (f - (e + 1)) → not u ≡ false → f ≡ length w →
-      Offset (Moment s c (record { west = west; hours = record { from = at; upto = e }; minutes = record { from = e + 1; upto = f } }))
+      Offset (Moment s c (SignedZone west (record { from = at; upto = e }) (record { from = e + 1; upto = f })))
   offset-both e x f t u o r h k q y n r₂ h₂ k₂ q₂ =
       let m : e < length w = omega (arith, r .within) in
       r-run w at e _ r (sym h ∙ not-false t k) (r-more w e _ m (r-byte w e 58 _ m (sym (y .is) ∙ n) (r-run w (e + 1) f _ r₂ (sym h₂ ∙ not-false u k₂) (r-stop w f _ q₂ refl (by-minute o r r₂)))))
@@ -72,14 +73,14 @@ module _ (w : List ℕ) (s : Stamp) (c : Clock) (at : ℕ) where
   pub utc-more : at ≤ length w → (at ≡ length w → ⊥) → FormAt (stop (timeOf w s c utc)) w at NoForm
   utc-more h n = r-trailing w at (omega arith)
 
-  pub utc-ends : Unzoned w s c → at ≡ length w → FormAt (stop (timeOf w s c utc)) w at (Moment s c (record { west = false; hours = record { from = 0; upto = 0 }; minutes = record { from = 0; upto = 0 } }))
-  utc-ends u h = r-stop w at _ h refl (no-offset u)
+  pub utc-ends : Behind (ClockTo w s c) at → at ≡ length w → FormAt (stop (timeOf w s c utc)) w at (Moment s c Utc)
+  utc-ends u h = r-stop w at _ h refl (by-Z u h)
 
   abbrev Zoned : Form → Type 0
   Zoned r = FormAt (g-zone (λ z. timeOf w s c z)) w at r
 
-  pub zone-local : (r : Form) → at ≡ length w → FormAt (stop (timeOf w s c utc)) w at r → Zoned r
-  zone-local r h x = r-nil w at r h x
+  pub zone-local : ClockTo w s c at → at ≡ length w → Zoned (Moment s c NoZone)
+  zone-local t h = r-nil w at _ h (r-stop w at _ h refl (no-zone t h))
 
   module _ (in-range : at ≤ length w) (not-end : at ≡ length w → ⊥) where
     pub zone-upper : (r : Form) → getD w at 0 ≡ 90 → FormAt (stop (timeOf w s c utc)) w (at + 1) r → Zoned r

@@ -6,7 +6,7 @@ use mathlib.Core.Path.{_≡_}
 use mathlib.Core.List.{List, [], map, _++_}
 use lib.ListN.{drop, length}
 use Rattle.rules.specs.Bytes.{fold, digit, between}
-use Rattle.rules.specs.Values.{Date as DateR, in-year, in-month, Zone as ZoneR, Second, Time, number, signed}
+use Rattle.rules.specs.Values.{Date as DateR, in-year, in-month, Zone as ZoneR, no-zone, utc, signed-zone, Second, Time, number, signed}
 use Rattle.rules.specs.Values.{Written, an-identifier, a-whole, a-based, a-decimal, a-date, a-time, a-date-time}
 use Rattle.rules.proofs.Machine.Patterns.{G, stop, byte, check, run, fork, matches}
 use Rattle.rules.proofs.Machine.Words.{next-is, some-of, zero-or-more, sec, g-scale, g-based, g-minutes, g-days, g-zone, g-dated}
@@ -17,6 +17,7 @@ use Rattle.forms.specs.declared.Date.{Date}
 use Rattle.forms.specs.declared.Date.the-variants.{InYear, InMonth}
 use Rattle.forms.specs.declared.Clock.{Clock}
 use Rattle.forms.specs.declared.Zone.{Zone}
+use Rattle.forms.specs.declared.Zone.the-variants.{NoZone, Utc, Offset}
 use Rattle.forms.specs.declared.Stamp.{Stamp}
 use Rattle.forms.specs.declared.Stamp.the-variants.{Undated, Dated}
 use Rattle.forms.specs.declared.Form.{Form}
@@ -31,9 +32,11 @@ abbrev pub dateOf : List ℕ → Date → DateR
 dateOf w (InYear n) = in-year (number (part w 0 4)) (number (on w n))
 dateOf w (InMonth m d) = in-month (number (part w 0 4)) (number (on w m)) (number (on w d))
 
--- a zone of the code; what is not written is no bytes, and so 0
+-- a zone of the code; minutes that are not written are no bytes, and so 0
 abbrev pub zoneOf : List ℕ → Zone → ZoneR
-zoneOf w z = record { west = z .west; hours = number (on w (z .hours)); minutes = number (on w (z .minutes)) }
+zoneOf w NoZone = no-zone
+zoneOf w Utc = utc
+zoneOf w (Offset west hours minutes) = signed-zone west (number (on w hours)) (number (on w minutes))
 
 -- a time of the code, without its zone
 abbrev pub clockOf : List ℕ → Clock → ZoneR → Time

@@ -14,6 +14,7 @@ use Rattle.forms.specs.declared.Date.the-variants.{InYear, InMonth}
 use Rattle.forms.specs.declared.Clock.{Clock}
 use Rattle.forms.specs.declared.Stamp.{Stamp}
 use Rattle.forms.specs.declared.Stamp.the-variants.{Undated, Dated}
+use Rattle.forms.specs.declared.Zone.the-variants.{NoZone, Utc, Offset}
 use Rattle.forms.specs.declared.Form.{Form}
 use Rattle.forms.specs.declared.Form.the-variants.{NoForm, Name, Whole, Radix, Decimal, Day, Moment}
 
@@ -93,10 +94,6 @@ pub data ClockTo (w : List ℕ) : Stamp → Clock → ℕ → Type 0 where
   decimals-to : {s : Stamp} {h m x : Span} {a e : ℕ} → SecondTo w s h m x a → getD w a 0 ≡ byte "." → DigitsTo w (a + 1) e →
       ClockTo w s (record { hour = h; minute = m; second = x; decimals = piece (a + 1) e }) e
 
--- a time with no offset: no sign stands behind its clock
-pub data Unzoned (w : List ℕ) (s : Stamp) (c : Clock) : Type 0 where
-  unzoned : {e : ℕ} → ClockTo w s c e → SignTo w e false e → Unzoned w s c
-
 -- the sign of an offset, behind the clock
 pub data OffsetTo (w : List ℕ) (s : Stamp) (c : Clock) : Bool → ℕ → Type 0 where
   offset-to : {west : Bool} {e a : ℕ} → ClockTo w s c e → SignTo w e west a → e < a → OffsetTo w s c west a
@@ -113,8 +110,9 @@ pub data Laid (w : List ℕ) : Form → Type 0 where
   scaled : {neg below : Bool} {ds fs : Span} {a e : ℕ} → PowerTo w neg ds fs below a → DigitsTo w a e →
       Laid w (Decimal neg ds fs below (piece a e))
   day : {d : Date} {e : ℕ} → DateTo w d e → Laid w (Day d)
-  no-offset : {s : Stamp} {c : Clock} → Unzoned w s c → Laid w (Moment s c (record { west = false; hours = absent; minutes = absent }))
+  no-zone : {s : Stamp} {c : Clock} {e : ℕ} → ClockTo w s c e → e ≡ length w → Laid w (Moment s c NoZone)
+  by-Z : {s : Stamp} {c : Clock} {a : ℕ} → Behind (ClockTo w s c) a → a ≡ length w → Laid w (Moment s c Utc)
   by-hour : {s : Stamp} {c : Clock} {west : Bool} {a e : ℕ} → OffsetTo w s c west a → DigitsTo w a e → e ≡ length w →
-      Laid w (Moment s c (record { west = west; hours = piece a e; minutes = absent }))
+      Laid w (Moment s c (Offset west (piece a e) absent))
   by-minute : {s : Stamp} {c : Clock} {west : Bool} {a e b : ℕ} → OffsetTo w s c west a → DigitsTo w a e → DigitsTo w (e + 1) b →
-      Laid w (Moment s c (record { west = west; hours = piece a e; minutes = piece (e + 1) b }))
+      Laid w (Moment s c (Offset west (piece a e) (piece (e + 1) b)))

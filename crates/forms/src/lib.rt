@@ -34,11 +34,11 @@ pub struct Clock {
     pub decimals: Span,
 }
 
-// How far from Greenwich; nothing written is 0.
-pub struct Zone {
-    pub west: bool,
-    pub hours: Span,
-    pub minutes: Span,
+// What ends a time: nothing, Z, or how far it is from Greenwich: whether west of it, hours, minutes.
+pub enum Zone {
+    NoZone,
+    Utc,
+    Offset(bool, Span, Span),
 }
 
 pub enum Stamp {

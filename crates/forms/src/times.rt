@@ -16,7 +16,7 @@ ghost use Rattle.rules.specs.Values.{utc};
 ghost use Rattle.rules.proofs.Machine.Patterns.{run, stop};
 ghost use Rattle.rules.proofs.Machine.Words.{g-days, g-dated, g-time, g-minutes, g-seconds, g-zone, g-offset};
 ghost use Rattle.classes.specs.Places.{part};
-ghost use Rattle.forms.specs.Laid.{Behind, MonthTo, DateTo, StampTo, HourTo, MinuteTo, SecondTo, ClockTo, Unzoned, OffsetTo};
+ghost use Rattle.forms.specs.Laid.{Behind, MonthTo, DateTo, StampTo, HourTo, MinuteTo, SecondTo, ClockTo, OffsetTo};
 ghost use Rattle.forms.specs.Forms.{FormAt, timeOf, stamped, dateOf, on, atSecond, g-decimals, inMonth};
 
 // The zone of a time, behind its sign.
@@ -31,11 +31,7 @@ fn zone_offset(w: &[u8], stamp: Stamp, clock: Clock, west: bool, at: usize) -> F
         return Form::NoForm;
     }
     if e == w.len() {
-        let zone = Zone {
-            west,
-            hours,
-            minutes: Span { from: 0, upto: 0 },
-        };
+        let zone = Zone::Offset(west, hours, Span { from: 0, upto: 0 });
         return Form::Moment(stamp, clock, zone);
     }
     if byte_at(w, e) != b':' {
@@ -49,33 +45,20 @@ fn zone_offset(w: &[u8], stamp: Stamp, clock: Clock, west: bool, at: usize) -> F
     if f != w.len() {
         return Form::NoForm;
     }
-    let zone = Zone {
-        west,
-        hours,
-        minutes: Span { from: q, upto: f },
-    };
+    let zone = Zone::Offset(west, hours, Span { from: q, upto: f });
     Form::Moment(stamp, clock, zone)
 }
 
-// The end of a time with no offset.
+// The end of a time behind its Z.
 fn utc_end(w: &[u8], stamp: Stamp, clock: Clock, at: usize) -> Form
     requires { ⌜ at ≤ length (now w) ⌝ }
-    requires { ⌜ Unzoned (now w) stamp clock ⌝ }
+    requires { ⌜ Behind (ClockTo (now w) stamp clock) at ⌝ }
     ensures { λ r. ⌜ FormAt (stop (timeOf (now (w .entry)) stamp clock utc)) (now (w .entry)) at r ⌝ }
 {
     if at != w.len() {
         return Form::NoForm;
     }
-    let none = Span { from: 0, upto: 0 };
-    Form::Moment(
-        stamp,
-        clock,
-        Zone {
-            west: false,
-            hours: none,
-            minutes: none,
-        },
-    )
+    Form::Moment(stamp, clock, Zone::Utc)
 }
 
 // What ends a time: nothing, Z, or an offset.
@@ -85,7 +68,7 @@ fn zone_at(w: &[u8], stamp: Stamp, clock: Clock, at: usize) -> Form
     ensures { λ r. ⌜ FormAt (g-zone (λ z. timeOf (now (w .entry)) stamp clock z)) (now (w .entry)) at r ⌝ }
 {
     if at == w.len() {
-        return utc_end(w, stamp, clock, at);
+        return Form::Moment(stamp, clock, Zone::NoZone);
     }
     let b = w[at];
     if b == b'Z' {

@@ -35,7 +35,7 @@ module _ {room out : List ℕ} {r : ℕ} where
   some-zone w o h e p = rw (ne-eqb o 0 h, ← e) p
 
   pub in-time : (x : Moment) → Puts ((wide 2 (x .hour) ++ ((58 ∷ wide 2 (x .minute)) ++ (58 ∷ wide 2 (x .second)))) ++ (fraction (significant (wide 9 (x .nanoseconds))) ++ zone (whole (x .west) (x .offset)))) room out r →
-      Puts (timeBytes (momentOf x)) room out r
+      Puts (timeBytes (zone (whole (x .west) (x .offset))) (momentOf x)) room out r
   in-time x p =
       same-part (append-assoc (wide 2 (x .hour)) ((58 ∷ wide 2 (x .minute)) ++ (58 ∷ wide 2 (x .second))) _
       ∙ ap (λ (l : List ℕ). wide 2 (x .hour) ++ (58 ∷ l)) (append-assoc (wide 2 (x .minute)) (58 ∷ wide 2 (x .second)) _)) p
@@ -43,8 +43,8 @@ module _ {room out : List ℕ} {r : ℕ} where
   pub a-date : (x : Moment) → x .parts ≡ 1 → Puts (dateBytes (momentOf x)) room out r → Puts (momentBytes (momentOf x)) room out r
   a-date x h p = rw (eq-eqb (x .parts) 1 h) p
 
-  pub a-time : (x : Moment) → (x .parts ≡ 1 → ⊥) → x .parts ≡ 2 → Puts (timeBytes (momentOf x)) room out r → Puts (momentBytes (momentOf x)) room out r
+  pub a-time : (x : Moment) → (x .parts ≡ 1 → ⊥) → x .parts ≡ 2 → Puts (timeBytes (zone (whole (x .west) (x .offset))) (momentOf x)) room out r → Puts (momentBytes (momentOf x)) room out r
   a-time x g h p = rw (ne-eqb (x .parts) 1 g, eq-eqb (x .parts) 2 h) p
 
-  pub both : (x : Moment) → (x .parts ≡ 1 → ⊥) → (x .parts ≡ 2 → ⊥) → Puts (dateBytes (momentOf x) ++ (84 ∷ timeBytes (momentOf x))) room out r → Puts (momentBytes (momentOf x)) room out r
+  pub both : (x : Moment) → (x .parts ≡ 1 → ⊥) → (x .parts ≡ 2 → ⊥) → Puts (dateBytes (momentOf x) ++ (84 ∷ timeBytes (zone (whole (x .west) (x .offset))) (momentOf x))) room out r → Puts (momentBytes (momentOf x)) room out r
   both x g h p = rw (ne-eqb (x .parts) 1 g, ne-eqb (x .parts) 2 h) p

@@ -20,11 +20,11 @@ pub struct Fraction {
     pub value: u64,
 }
 
-// A mark and a number of two digits.
-fn put_two(out: &mut [u8], mark: u8, n: u64) -> usize
-    ensures { λ r. ⌜ Puts (mark ∷ wide 2 n) (now (out .entry)) (now (out .exit)) r × (r ≡ 3) ⌝ }
+// A sign and a number of two digits.
+fn put_two(out: &mut [u8], sign: u8, n: u64) -> usize
+    ensures { λ r. ⌜ Puts (sign ∷ wide 2 n) (now (out .entry)) (now (out .exit)) r × (r ≡ 3) ⌝ }
 {
-    let a = put_byte(out, mark);
+    let a = put_byte(out, sign);
     let k = least(a, out.len());
     let m = put_wide(&mut out[k..], 2, n);
     a + m
@@ -83,7 +83,7 @@ fn put_fraction(out: &mut [u8], n: u32) -> usize
     a + m
 }
 
-fn zone_mark(west: bool) -> u8
+fn zone_sign(west: bool) -> u8
     ensures { λ r. ⌜ r ≡ cond west 45 43 ⌝ }
 {
     if west { b'-' } else { b'+' }
@@ -95,15 +95,15 @@ fn put_zone(out: &mut [u8], west: bool, offset: u16) -> usize
     if offset == 0 {
         return put_byte(out, b'Z');
     }
-    let mark = zone_mark(west);
-    let a = put_two(out, mark, (offset / 60) as u64);
+    let sign = zone_sign(west);
+    let a = put_two(out, sign, (offset / 60) as u64);
     let k = least(a, out.len());
     let m = put_two(&mut out[k..], b':', (offset % 60) as u64);
     a + m
 }
 
 fn put_time(out: &mut [u8], x: Moment) -> usize
-    ensures { λ r. ⌜ Puts (timeBytes (momentOf x)) (now (out .entry)) (now (out .exit)) r × (r ≤ 24) ⌝ }
+    ensures { λ r. ⌜ Puts (timeBytes (zone (whole (x .west) (x .offset))) (momentOf x)) (now (out .entry)) (now (out .exit)) r × (r ≤ 24) ⌝ }
 {
     let a = put_clock(out, x);
     let k = least(a, out.len());

@@ -6,7 +6,7 @@ use mathlib.Core.List.{List, [], map}
 use Rattle.rules.specs.Bytes.{fold}
 use Rattle.rules.specs.Data as rule
 use Rattle.rules.specs.Data.{Opens, outside, attribute, pointer, opened, closed, an-integer, a-real, a-moment, a-text, a-symbol, a-unit, sequence, sequence-end, set, set-end, last}
-use Rattle.rules.specs.Meaning.{Sense, sense, reassemble}
+use Rattle.rules.specs.Meaning.{Sense, unmarked, sense, reassemble}
 use Rattle.rules.specs.Written.{Prior, prior, writes}
 use Rattle.classes.specs.Places.{part}
 use Rattle.words.specs.Says.{whole, realOf, momentOf}
@@ -64,7 +64,7 @@ module _ {given : List ℕ} {q : Prior} {d : ℕ} {top x y : List ℕ} {n : ℕ}
   pub float-put : {v : Real} → row ≡ rows.Float v → Puts (writes q outside (a-real (realOf v))) x y n × (n ≤ rowBound) → RowPut given q d top row x y n
   float-put h p = one h refl (λ o z. p .0) (p .1)
 
-  pub when-put : {v : Moment} → row ≡ rows.Time v → Puts (writes q outside (a-moment (momentOf v))) x y n × (n ≤ rowBound) → RowPut given q d top row x y n
+  pub when-put : {v : Moment} → row ≡ rows.Time v → Puts (writes q outside (a-moment (unmarked (momentOf v)))) x y n × (n ≤ rowBound) → RowPut given q d top row x y n
   when-put h p = one h refl (λ o z. p .0) (p .1)
 
   pub text-put : (w : List ℕ) {a b : ℕ} → row ≡ rows.Text a b → w ≡ part given a b → Puts (writes q outside (a-text (reassemble w))) x y n × (n ≤ rowBound) → RowPut given q d top row x y n

@@ -20,7 +20,7 @@ ghost use Prim.Native.Nat.{_≤_};
 ghost use lib.ListN.{length};
 ghost use Rattle.rules.specs.Bytes.{ascii, fold};
 ghost use Rattle.rules.specs.Data.{outside, an-integer, a-real, a-moment, a-text, a-symbol, a-unit, sequence, sequence-end, set, set-end};
-ghost use Rattle.rules.specs.Meaning.{reassemble};
+ghost use Rattle.rules.specs.Meaning.{unmarked, reassemble};
 ghost use Rattle.rules.specs.Reading.{longest};
 ghost use Rattle.rules.specs.Written.{symbolBytes, isOne, opSign, exponentBytes, writes};
 ghost use Rattle.words.specs.Says.{whole, realOf, momentOf};
@@ -47,7 +47,7 @@ pub fn put_float(out: &mut [u8], q: Prior, x: Real) -> usize
 }
 
 pub fn put_when(out: &mut [u8], q: Prior, x: Moment) -> usize
-    ensures { λ r. ⌜ Puts (writes (priorOf q) outside (a-moment (momentOf x))) (now (out .entry)) (now (out .exit)) r × (r ≤ rowBound) ⌝ }
+    ensures { λ r. ⌜ Puts (writes (priorOf q) outside (a-moment (unmarked (momentOf x)))) (now (out .entry)) (now (out .exit)) r × (r ≤ rowBound) ⌝ }
 {
     let a = put_lead(out, q);
     let k = least(a, out.len());

@@ -138,14 +138,15 @@ a-real b v z q y m n p p′ f g f′ g′ = record {
       ∙ ap (got _) (past 10 b rest);
 }
 
-pub a-moment : (b : List ℕ) (y n o p m d i j c z : ℕ) (w : Bool) → NumberAt 2 0 b 1 y → NumberAt 4 0 b 8 n → NumberAt 2 0 b 12 o → OctetAt b 0 p → OctetAt b 3 m → OctetAt b 4 d → OctetAt b 5 i → OctetAt b 6 j → OctetAt b 7 c →
+pub a-moment : (b : List ℕ) (y n o p m d i j c z k : ℕ) (w : Bool) → NumberAt 2 0 b 1 y → NumberAt 4 0 b 8 n → NumberAt 2 0 b 12 o → OctetAt b 0 p → OctetAt b 3 m → OctetAt b 4 d → OctetAt b 5 i → OctetAt b 6 j → OctetAt b 7 c → OctetAt b 14 k →
     w ≡ leb 32768 o → z ≡ cond (leb 32768 o) (32768 + 32768 - o) o →
-    Body 12 b (rows.Time (record { parts = p; year = y; month = m; day = d; hour = i; minute = j; second = c; nanoseconds = n; west = w; offset = z }))
+    Body 12 b (rows.Time (record { parts = p; year = y; month = m; day = d; hour = i; minute = j; second = c; nanoseconds = n; west = w; offset = z; mark = k }))
 unfolding decode
-a-moment b y n o p m d i j c z w hy hn ho hp hm hd hi hj hc f g = record {
+a-moment b y n o p m d i j c z k w hy hn ho hp hm hd hi hj hc hk f g = record {
   is = λ rest. hp .then (longestRow - 1) (omega arith) rest _ ∙ hy .then (longestRow - 1) (omega arith) rest _ ∙ hm .then (longestRow - 1) (omega arith) rest _ ∙ hd .then (longestRow - 1) (omega arith) rest _ ∙ hi .then (longestRow - 1) (omega arith) rest _
       ∙ hj .then (longestRow - 1) (omega arith) rest _ ∙ hc .then (longestRow - 1) (omega arith) rest _ ∙ hn .then (longestRow - 1) (omega arith) rest _ ∙ ho .then (longestRow - 1) (omega arith) rest _
-      ∙ ap₂ (λ (x : rule.Whole) (s : List ℕ). got (rule.a-moment (record { parts = p; year = y; month = m; day = d; hour = i; minute = j; second = c; nanoseconds = n; offset = x })) s)
+      ∙ hk .then (longestRow - 1) (omega arith) rest _
+      ∙ ap₂ (λ (x : rule.Whole) (s : List ℕ). got (rule.a-moment (record { parts = p; year = y; month = m; day = d; hour = i; minute = j; second = c; nanoseconds = n; offset = x; mark = k })) s)
       (signs (256 ^ 2) 32768 o w z refl f g) (past (longestRow - 1) b rest);
 }
 
@@ -253,7 +254,7 @@ module _ (s : List ℕ) where
   moment-short : length s < longestRow - 1 → momentThen s ≡ nothing
   moment-short h =
       byte-none s _ (λ _ s₁ e₁. field-none 2 0 s₁ _ (λ _ s₂ e₂. byte-none s₂ _ (λ _ s₃ e₃. byte-none s₃ _ (λ _ s₄ e₄. byte-none s₄ _ (λ _ s₅ e₅. byte-none s₅ _ (λ _ s₆ e₆.
-      byte-none s₆ _ (λ _ s₇ e₇. field-none 4 0 s₇ _ (λ _ s₈ e₈. field-none 2 0 s₈ _ (λ _ s₉ e₉. absurd (omega arith))))))))))
+      byte-none s₆ _ (λ _ s₇ e₇. field-none 4 0 s₇ _ (λ _ s₈ e₈. field-none 2 0 s₈ _ (λ _ s₉ e₉. byte-none s₉ _ (λ _ s₁₀ e₁₀. absurd (omega arith)))))))))))
 
   unit-short : length s < 6 → byteThen s (λ op s. cond (leb op 2) (unitThen op s) nothing) ≡ nothing
   unit-short h =

@@ -42,9 +42,9 @@ module _ {row : Row} {x y : List ℕ} {n : ℕ} where
   encodes-real t u h e d p = is h (ap₂ (λ (z w : List ℕ). 11 ∷ (z ++ w)) e (ap (bytes 2) d)) p
 
   pub encodes-moment : (u : ℕ) {f : Moment} → row ≡ rows.Time f → u ≡ cond (f .west) (65536 - f .offset) (f .offset) →
-      Wrote (12 ∷ f .parts ∷ (bytes 2 (f .year) ++ (f .month ∷ f .day ∷ f .hour ∷ f .minute ∷ f .second ∷ (bytes 4 (f .nanoseconds) ++ bytes 2 u)))) x y n → Wrote (encode (rowOf row)) x y n
+      Wrote (12 ∷ f .parts ∷ (bytes 2 (f .year) ++ (f .month ∷ f .day ∷ f .hour ∷ f .minute ∷ f .second ∷ (bytes 4 (f .nanoseconds) ++ (bytes 2 u ++ (f .mark ∷ [])))))) x y n → Wrote (encode (rowOf row)) x y n
   encodes-moment u {f} h e p =
-      is h (ap (λ (z : List ℕ). 12 ∷ f .parts ∷ (bytes 2 (f .year) ++ (f .month ∷ f .day ∷ f .hour ∷ f .minute ∷ f .second ∷ (bytes 4 (f .nanoseconds) ++ z)))) (ap (bytes 2) e)) p
+      is h (ap (λ (z : List ℕ). 12 ∷ f .parts ∷ (bytes 2 (f .year) ++ (f .month ∷ f .day ∷ f .hour ∷ f .minute ∷ f .second ∷ (bytes 4 (f .nanoseconds) ++ (z ++ (f .mark ∷ [])))))) (ap (bytes 2) e)) p
 
   pub encodes-unit : {o : Op} {a b v c u : ℕ} {m : Bool} → row ≡ rows.Unit o a b m v → c ≡ opNumber (opOf o) → u ∷ [] ≡ complement 1 (whole m v) →
       Wrote (15 ∷ c ∷ (bytes 2 a ++ (bytes 2 b ++ (u ∷ [])))) x y n → Wrote (encode (rowOf row)) x y n

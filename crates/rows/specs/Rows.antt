@@ -56,7 +56,7 @@ deepest = 80
 
 -- how many bytes a row has at most
 abbrev pub longestRow : ℕ
-longestRow = 15
+longestRow = 16
 
 -- the room after is w over the room before, and n is w's length
 pub record Wrote (w before after : List ℕ) (n : ℕ) : Type 0 where

@@ -86,6 +86,7 @@ fn time(b: &[u8]) -> Row
         nanoseconds: n as u32,
         west: is_minus(o, HALF_OF_2),
         offset: size_of(o, HALF_OF_2) as u16,
+        mark: octet(b, 14),
     })
 }
 

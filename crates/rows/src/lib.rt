@@ -75,7 +75,7 @@ pub enum Got {
 }
 
 // The bytes of the longest rows, those of dates and times.
-pub const LONGEST_ROW: usize = 15;
+pub const LONGEST_ROW: usize = 16;
 
 // The kinds of rows, as the table has them.
 pub const ATTRIBUTE: u8 = 1;

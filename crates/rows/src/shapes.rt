@@ -57,26 +57,27 @@ fn encode_date(out: &mut [u8], x: Moment) -> usize
     j + i
 }
 
-// Hour, minute, second, nanoseconds, offset.
-fn encode_clock(out: &mut [u8], x: Moment, offset: u64) -> usize
-    requires { ⌜ 9 ≤ length (now out) ⌝ }
-    ensures { λ r. ⌜ Wrote (x .hour ∷ x .minute ∷ x .second ∷ (bytes 4 (x .nanoseconds) ++ bytes 2 offset)) (now (out .entry)) (now (out .exit)) r ⌝ }
+// Hour, minute, second, nanoseconds.
+fn encode_clock(out: &mut [u8], x: Moment) -> usize
+    requires { ⌜ 7 ≤ length (now out) ⌝ }
+    ensures { λ r. ⌜ Wrote (x .hour ∷ x .minute ∷ x .second ∷ bytes 4 (x .nanoseconds)) (now (out .entry)) (now (out .exit)) r ⌝ }
 {
     let n = encode_byte(out, x.hour);
     let m = n + encode_byte(&mut out[n..], x.minute);
     let k = m + encode_byte(&mut out[m..], x.second);
-    let j = k + encode_four(&mut out[k..], x.nanoseconds as u64);
-    let i = encode_two(&mut out[j..], offset);
-    j + i
+    let j = encode_four(&mut out[k..], x.nanoseconds as u64);
+    k + j
 }
 
 pub fn encode_moment(out: &mut [u8], x: Moment, offset: u64) -> usize
     requires { ⌜ longestRow ≤ length (now out) ⌝ }
-    ensures { λ r. ⌜ Wrote (12 ∷ x .parts ∷ (bytes 2 (x .year) ++ (x .month ∷ x .day ∷ x .hour ∷ x .minute ∷ x .second ∷ (bytes 4 (x .nanoseconds) ++ bytes 2 offset)))) (now (out .entry)) (now (out .exit)) r ⌝ }
+    ensures { λ r. ⌜ Wrote (12 ∷ x .parts ∷ (bytes 2 (x .year) ++ (x .month ∷ x .day ∷ x .hour ∷ x .minute ∷ x .second ∷ (bytes 4 (x .nanoseconds) ++ (bytes 2 offset ++ (x .mark ∷ [])))))) (now (out .entry)) (now (out .exit)) r ⌝ }
 {
     let n = encode_date(out, x);
-    let m = encode_clock(&mut out[n..], x, offset);
-    n + m
+    let m = n + encode_clock(&mut out[n..], x);
+    let k = m + encode_two(&mut out[m..], offset);
+    let j = encode_byte(&mut out[k..], x.mark);
+    k + j
 }
 
 pub fn encode_unit(out: &mut [u8], op: u8, a: usize, b: usize, exponent: u8) -> usize

@@ -1,5 +1,5 @@
 -- Tables: the machine over rows accepts exactly the rows of labels; rows out of bytes, in one way only; every table is proper or improper, at one place;
--- the table that a reading gives is proper over what was read, and at most five times as long.
+-- which marks no proper table has; the table that a reading gives is proper over what was read, and at most five times as long.
 pub mod Tests
 pub mod Numbers
 pub mod Contents
@@ -13,6 +13,7 @@ pub mod DecodeComplete
 pub mod DecodeSound
 pub mod Once
 pub mod Walk
+pub mod ProperMarks
 pub mod Decided
 pub mod Judge
 pub mod OwnTable

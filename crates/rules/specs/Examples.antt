@@ -30,13 +30,13 @@ to i j = record { from = i; upto = j }
 abbrev pub day : ℕ → ℕ → ℕ → Row
 day y m d =
     let none : Whole = record { minus = false; size = 0 } in
-    a-moment (record { parts = 1; year = y; month = m; day = d; hour = 0; minute = 0; second = 0; nanoseconds = 0; offset = none })
+    a-moment (record { parts = 1; year = y; month = m; day = d; hour = 0; minute = 0; second = 0; nanoseconds = 0; offset = none; mark = 0 })
 
--- the row of a time: hour, minute, and an offset west of Greenwich
+-- the row of a time: hour, minute, and a signed zone west of Greenwich
 abbrev pub time-west : ℕ → ℕ → ℕ → Row
 time-west h n w =
     let west : Whole = record { minus = true; size = w } in
-    a-moment (record { parts = 2; year = 0; month = 0; day = 0; hour = h; minute = n; second = 0; nanoseconds = 0; offset = west })
+    a-moment (record { parts = 2; year = 0; month = 0; day = 0; hour = h; minute = n; second = 0; nanoseconds = 0; offset = west; mark = 2 })
 
 -- the rows marked P of the checked examples
 abbrev pub examples : List Example
@@ -95,6 +95,14 @@ integer-of n = 10 ∷ 0 ∷ 0 ∷ 0 ∷ 0 ∷ 0 ∷ 0 ∷ 0 ∷ n ∷ []
 abbrev pub end-at : ℕ → List ℕ
 end-at n = 99 ∷ 0 ∷ n ∷ []
 
+-- the row of ten o'clock: its offset, two bytes, and its mark
+abbrev pub at-ten : ℕ → ℕ → ℕ → List ℕ
+at-ten high low mark = 12 ∷ 2 ∷ 0 ∷ 0 ∷ 0 ∷ 0 ∷ 10 ∷ 0 ∷ 0 ∷ 0 ∷ 0 ∷ 0 ∷ 0 ∷ high ∷ low ∷ mark ∷ []
+
+-- the row of the seventh day of 1990, with a mark
+abbrev pub seventh : ℕ → List ℕ
+seventh mark = 12 ∷ 1 ∷ 7 ∷ 198 ∷ 1 ∷ 7 ∷ 0 ∷ 0 ∷ 0 ∷ 0 ∷ 0 ∷ 0 ∷ 0 ∷ 0 ∷ 0 ∷ mark ∷ []
+
 -- an attribute and its text of ten bytes
 abbrev pub text-table : List ℕ
 text-table = attribute-A ++ (13 ∷ 0 ∷ 3 ∷ 0 ∷ 13 ∷ end-at 18)
@@ -108,7 +116,7 @@ abbrev pub group-table : List ℕ
 group-table =
     5 ∷ 0 ∷ 6 ∷ 0 ∷ 7 ∷ 1 ∷ 0 ∷ 8 ∷ 0 ∷ 9 ∷ (integer-of 1 ++ (6 ∷ 1 ∷ 0 ∷ 22 ∷ 0 ∷ 23 ∷ (integer-of 2 ++ end-at 29)))
 
--- what no theorem pins, and document 02 §2 and §4, worked out by hand from the papers
+-- what no theorem pins, and document 02 §2, §4 and §6, worked out by hand from the papers
 abbrev pub calls : List Call
 calls =
     -- a comment runs to its `*/`, and the rest of that line is ignored: the first END is no element
@@ -151,6 +159,21 @@ calls =
     -- document 02 §4: plainly where the power is -18 to -1, with all digits and `.0` up to 18 of them, zero as `0.0`, otherwise with `E`
     ∷ relabels (ascii "A=(1.50,15E-3,-.5,1e-18,1e-19) B=(-15.,0.0E7,1e17,1e18) END")
     (ascii "A = (1.5, 0.015, -0.5, 0.000000000000000001, 1.E-19)\r\nB = (-15.0, 0.0, 100000000000000000.0, 1.E18)\r\nEND\r\n")
+    -- document 02 §6: the mark behind the offset: 0 no zone, 1 Z, 2 a signed zone, `+0` too; 0 where there is no time
+    ∷ reads (ascii "A=(10:00,10:00Z,10:00+0,10:00-00:30,1990-07) END") (before 91) (says 0 48 90)
+    (attribute-A ++ (20 ∷ (at-ten 0 0 0 ++ (at-ten 0 0 1 ++ (at-ten 0 0 2 ++ (at-ten 255 226 2 ++ (seventh 0 ++ (21 ∷ (end-at 48 ++ before 1)))))))))
+    -- a written time ends in Z or a signed zone, whatever the mark
+    ∷ writes (ascii "A=10:00 END") (attribute-A ++ (at-ten 0 0 0 ++ end-at 11)) (before 21) (says 0 20 20) (ascii "A = 10:00:00Z\r\nEND\r\n" ++ before 1)
+    ∷ writes (ascii "A=10:00 END") (attribute-A ++ (at-ten 0 0 1 ++ end-at 11)) (before 21) (says 0 20 20) (ascii "A = 10:00:00Z\r\nEND\r\n" ++ before 1)
+    ∷ writes (ascii "A=10:00 END") (attribute-A ++ (at-ten 0 0 2 ++ end-at 11)) (before 21) (says 0 20 20) (ascii "A = 10:00:00Z\r\nEND\r\n" ++ before 1)
+    -- 12: a mark of 0 or 1 with an offset, one above 2, one on a date
+    ∷ writes (ascii "A=10:00 END") (attribute-A ++ (at-ten 255 226 0 ++ end-at 11)) (before 2) (says 12 5 0) (before 2)
+    ∷ writes (ascii "A=10:00 END") (attribute-A ++ (at-ten 255 226 1 ++ end-at 11)) (before 2) (says 12 5 0) (before 2)
+    ∷ writes (ascii "A=10:00 END") (attribute-A ++ (at-ten 0 0 3 ++ end-at 11)) (before 2) (says 12 5 0) (before 2)
+    ∷ writes (ascii "A=10:00 END") (attribute-A ++ (seventh 1 ++ end-at 11)) (before 2) (says 12 5 0) (before 2)
+    ∷ writes (ascii "A=10:00 END") (attribute-A ++ (seventh 2 ++ end-at 11)) (before 2) (says 12 5 0) (before 2)
+    -- document 02 §6: no zone, Z and `+0` are written alike
+    ∷ relabels (ascii "A=(10:00,10:00z,10:00+0,10:00-00:30) END") (ascii "A = (10:00:00Z, 10:00:00Z, 10:00:00Z, 10:00:00-00:30)\r\nEND\r\n")
     -- the paper's example of relabel, its real as document 02 §4 writes it
     ∷ relabels (ascii "object = cam /* rig 4 */ ignored\n start = 1990-158T15:24:12\n hold = 1.50 <sec**1>\nend_object\nEND\n")
     (ascii "OBJECT = CAM\r\n  START = 1990-06-07T15:24:12Z\r\n  HOLD = 1.5 <SEC>\r\nEND_OBJECT = CAM\r\nEND\r\n")

@@ -1,4 +1,5 @@
--- The meaning of a table: its rows without row 99's offset, each span replaced by its bytes, folded up, or reassembled for texts.
+-- The meaning of a table: its rows without row 99's offset and without marks, each span replaced by its bytes, folded up, or reassembled for
+-- texts.
 use Prim.Native.Nat.{ℕ}
 use Prim.Native.Char.{code as byte}
 use mathlib.Core.Bool.{Bool, true, false, cond, not, _&&_, _||_}
@@ -6,7 +7,7 @@ use mathlib.Core.Path.{_≡_}
 use mathlib.Core.List.{List, [], _∷_, _++_, map}
 use lib.Dec.{leb, eqb}
 use Rattle.rules.specs.Bytes.{spacing, lineEnd, fold, front, Run}
-use Rattle.rules.specs.Data.{RowOf, Row, attribute, pointer, opened, closed, an-integer, a-real, a-moment, a-text, a-symbol, a-unit}
+use Rattle.rules.specs.Data.{MomentOf, RowOf, Row, attribute, pointer, opened, closed, an-integer, a-real, a-moment, a-text, a-symbol, a-unit}
 use Rattle.rules.specs.Data.{sequence, sequence-end, set, set-end, last}
 use Rattle.rules.specs.Elements.{isBlank}
 use Rattle.rules.specs.Proper.{stretch}
@@ -74,13 +75,28 @@ reassemble s = join false (keep s)
 
 -- a row of a meaning
 abbrev pub Sense : Type 0
-Sense = RowOf (List ℕ) (Unit {0})
+Sense = RowOf (List ℕ) (Unit {0}) (Unit {0})
 
 -- folded up
 abbrev pub foldAll : List ℕ → List ℕ
 foldAll w = map fold w
 
--- without row 99's offset, each span replaced by its bytes: folded up, or reassembled for texts
+-- Document 02 §6: the mark stays out of the meaning: a date or time without it
+abbrev pub unmarked : {M : Type 0} → MomentOf M → MomentOf (Unit {0})
+unmarked t = record {
+  parts = t .parts;
+  year = t .year;
+  month = t .month;
+  day = t .day;
+  hour = t .hour;
+  minute = t .minute;
+  second = t .second;
+  nanoseconds = t .nanoseconds;
+  offset = t .offset;
+  mark = tt;
+}
+
+-- without row 99's offset and without the mark, each span replaced by its bytes: folded up, or reassembled for texts
 abbrev pub sense : List ℕ → Row → Sense
 sense given (attribute p) = attribute (foldAll (stretch given p))
 sense given (pointer p) = pointer (foldAll (stretch given p))
@@ -88,7 +104,7 @@ sense given (opened k p) = opened k (foldAll (stretch given p))
 sense given (closed k) = closed k
 sense given (an-integer w) = an-integer w
 sense given (a-real x) = a-real x
-sense given (a-moment t) = a-moment t
+sense given (a-moment t) = a-moment (unmarked t)
 sense given (a-text p) = a-text (reassemble (stretch given p))
 sense given (a-symbol p) = a-symbol (foldAll (stretch given p))
 sense given (a-unit op p w) = a-unit op (foldAll (stretch given p)) w

@@ -20,8 +20,10 @@ theRules = base
 
 -- ---- rows that a label gives, spans aside
 
--- a row, its span aside, and row 99's offset
-abbrev pub aside : {S L : Type 0} → RowOf S L → RowOf (Unit {0}) (Unit {0})
+-- a row, its span aside, and row 99's offset. Document 02 §6: A mark of 0 or 1 with a nonzero offset, above 2, or other than 0 where
+-- there is no time, makes a table improper. Refusals: 12 for such a row. So the mark is not put aside: no label gives such a row, and it is
+-- improper at its place (proofs/Tables/ProperMarks).
+abbrev pub aside : {S L M : Type 0} → RowOf S L M → RowOf (Unit {0}) (Unit {0}) M
 aside (attribute p) = attribute tt
 aside (pointer p) = pointer tt
 aside (opened k p) = opened k tt

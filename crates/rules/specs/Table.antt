@@ -35,11 +35,12 @@ opNumber first = 0
 opNumber times = 1
 opNumber divided = 2
 
--- parts 1 (1 date, 2 time, 3 both), year 2, month, day, hour, minute, second 1 each, nanoseconds 4, offset 2: 14.
+-- parts 1 (1 date, 2 time, 3 both), year 2, month, day, hour, minute, second 1 each, nanoseconds 4, offset 2.
+-- Document 02 §6: one more byte, after the offset: 0 no zone, 1 Z, 2 a signed zone. Its body is now 15 bytes.
 abbrev pub encodeMoment : Moment → List ℕ
 encodeMoment t =
     t .parts ∷ (bytes 2 (t .year) ++ (t .month ∷ t .day ∷ t .hour ∷ t .minute ∷ t .second
-    ∷ (bytes 4 (t .nanoseconds) ++ complement 2 (t .offset))))
+    ∷ (bytes 4 (t .nanoseconds) ++ (complement 2 (t .offset) ++ (t .mark ∷ [])))))
 
 -- Each row is one byte of kind, then a body whose length the kind fixes.
 abbrev pub encode : Row → List ℕ
@@ -48,7 +49,7 @@ encode (attribute p) = 1 ∷ span p
 encode (pointer p) = 2 ∷ span p
 encode (opened k p) = openKind k ∷ span p
 encode (closed k) = closeKind k ∷ []
--- 10: integer, 8. 11: real: number 8, power 2. 12: date or time, 14
+-- 10: integer, 8. 11: real: number 8, power 2. 12: date or time, 15
 encode (an-integer w) = 10 ∷ complement 8 w
 encode (a-real x) = 11 ∷ (complement 8 (x .number) ++ complement 2 (x .power))
 encode (a-moment t) = 12 ∷ encodeMoment t

@@ -18,15 +18,12 @@ pub data Date : Type 0 where
   in-year : ℕ → ℕ → Date
   in-month : ℕ → ℕ → ℕ → Date
 
--- A zone is a sign, hour, and optionally minute; the sign covers both.
-pub record Zone : Type 0 where
-  pub west : Bool
-  pub hours : ℕ
-  pub minutes : ℕ
-
--- Z, z and no zone all mean offset 0 (12.3.2.3).
-abbrev pub utc : Zone
-utc = record { west = false; hours = 0; minutes = 0 }
+-- what ends a time
+pub data Zone : Type 0 where
+  -- no zone; Z or z
+  no-zone utc : Zone
+  -- A zone is a sign, hour, and optionally minute; the sign covers both. West of Greenwich or not, hours, minutes
+  signed-zone : Bool → ℕ → ℕ → Zone
 
 -- a second and its decimals
 pub record Second : Type 0 where
@@ -186,22 +183,39 @@ dayOf (in-year y n) = cond (leb 1 y && leb 1 n) (nthDay y (1 ∷ 2 ∷ 3 ∷ 4 �
 dayOf (in-month y m d) =
     within (leb 1 y && (between 1 12 m && between 1 (monthLength y m) d)) (record { year = y; month = m; day = d })
 
--- hour 0-23, minute 0-59, second 0 to below 60; at most 9 decimals once trailing zeros are dropped.
 -- A zone is a sign, hour 0-12, and optionally minute 0-59.
+abbrev pub zoneKept : Zone → Bool
+zoneKept no-zone = true
+zoneKept utc = true
+zoneKept (signed-zone west h n) = leb h 12 && leb n 59
+
+-- hour 0-23, minute 0-59, second 0 to below 60; at most 9 decimals once trailing zeros are dropped.
 abbrev pub timeKept : Time → Bool
 timeKept t =
     ltb (t .hour) 24 && (ltb (t .minute) 60 && (ltb (t .second .whole) 60
-    && (leb (length (significant (t .second .decimals))) 9 && (leb (t .zone .hours) 12 && leb (t .zone .minutes) 59))))
+    && (leb (length (significant (t .second .decimals))) 9 && zoneKept (t .zone))))
 
 -- An absent part is all 0: no date,
 abbrev pub noDay : Day
 noDay = record { year = 0; month = 0; day = 0 }
 
--- and no time.
+-- and no time. Document 02 §6: the mark is 0 where there is no time, as where there is no zone.
 abbrev pub noTime : Time
-noTime = record { hour = 0; minute = 0; second = record { whole = 0; decimals = [] }; zone = utc }
+noTime = record { hour = 0; minute = 0; second = record { whole = 0; decimals = [] }; zone = no-zone }
 
--- a date and a time as they are held; the zone is held as signed minutes, -779 to 779
+-- Z, z and no zone all mean offset 0 (12.3.2.3). The zone is held as signed minutes, -779 to 779
+abbrev pub offsetOf : Zone → Whole
+offsetOf no-zone = signed false 0
+offsetOf utc = signed false 0
+offsetOf (signed-zone west h n) = signed west (h * 60 + n)
+
+-- Document 02 §6: 0 no zone, 1 Z, 2 a signed zone, `+0` too
+abbrev pub markOf : Zone → ℕ
+markOf no-zone = 0
+markOf utc = 1
+markOf (signed-zone west h n) = 2
+
+-- a date and a time as they are held
 abbrev pub at : ℕ → Day → Time → Moment
 at parts d t = record {
   parts = parts;
@@ -212,7 +226,8 @@ at parts d t = record {
   minute = t .minute;
   second = t .second .whole;
   nanoseconds = number (significant (t .second .decimals)) * 10 ^ (9 - length (significant (t .second .decimals)));
-  offset = signed (t .zone .west) (t .zone .hours * 60 + t .zone .minutes);
+  offset = offsetOf (t .zone);
+  mark = markOf (t .zone);
 }
 
 -- of a value, what is made of it; of none, none

@@ -10,7 +10,7 @@ use lib.ListN.{length}
 use Rattle.rules.specs.Bytes.{ascii, between, digit, letter, alnum, fold, All, front, pair, anywhere}
 use Rattle.rules.specs.Data.{Whole, Elem}
 use Rattle.rules.specs.Modes.{Mode}
-use Rattle.rules.specs.Values.{Date, in-year, in-month, Zone, utc, Second, Time, Written, an-identifier, a-whole, a-based, a-decimal}
+use Rattle.rules.specs.Values.{Date, in-year, in-month, Zone, no-zone, utc, signed-zone, Second, Time, Written, an-identifier, a-whole, a-based, a-decimal}
 use Rattle.rules.specs.Values.{a-date, a-time, a-date-time, a-range, number, signed, same, each, value}
 
 -- ---- identifiers
@@ -93,19 +93,19 @@ pub data Seconds : List ℕ → Second → Type 0 where
       Seconds (byte ":" ∷ (s ++ byte "." ∷ fs)) (record { whole = number s; decimals = fs })
 
 -- the sign of a zone_offset
-pub data ZoneMark : ℕ → Bool → Type 0 where
-  east : ZoneMark (byte "+") false
-  west : ZoneMark (byte "-") true
+pub data ZoneSign : ℕ → Bool → Type 0 where
+  east : ZoneSign (byte "+") false
+  west : ZoneSign (byte "-") true
 
 -- what ends a time: nothing (local_time), Z (utc_time), or a zone (zoned_time), with zone_offset ::= sign hour [: minute]
 pub data Zoned : List ℕ → Zone → Type 0 where
-  local : Zoned [] utc
+  local : Zoned [] no-zone
   utc-upper : Zoned (byte "Z" ∷ []) utc
   utc-lower : Zoned (byte "z" ∷ []) utc
-  by-hour : {b : ℕ} {h : List ℕ} {w : Bool} → ZoneMark b w → Digits 1 2 h →
-      Zoned (b ∷ h) (record { west = w; hours = number h; minutes = 0 })
-  by-minute : {b : ℕ} {h mi : List ℕ} {w : Bool} → ZoneMark b w → Digits 1 2 h → Digits 1 2 mi →
-      Zoned (b ∷ (h ++ byte ":" ∷ mi)) (record { west = w; hours = number h; minutes = number mi })
+  by-hour : {b : ℕ} {h : List ℕ} {w : Bool} → ZoneSign b w → Digits 1 2 h →
+      Zoned (b ∷ h) (signed-zone w (number h) 0)
+  by-minute : {b : ℕ} {h mi : List ℕ} {w : Bool} → ZoneSign b w → Digits 1 2 h → Digits 1 2 mi →
+      Zoned (b ∷ (h ++ byte ":" ∷ mi)) (signed-zone w (number h) (number mi))
 
 -- time ::= local_time | utc_time | zoned_time, with hour_min_sec ::= hour : minute [: second]
 pub data TimeWord : List ℕ → Time → Type 0 where

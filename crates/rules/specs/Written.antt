@@ -6,7 +6,7 @@ use mathlib.Core.List.{List, [], _∷_, _++_, map}
 use lib.Dec.{leb, eqb}
 use lib.ListN.{length}
 use Rattle.rules.specs.Bytes.{ascii, fold}
-use Rattle.rules.specs.Data.{Whole, Real, Moment, Kind, object, group, Op, first, times, divided, Opens, outside, inside, depth}
+use Rattle.rules.specs.Data.{Whole, Real, MomentOf, RowOf, Kind, object, group, Op, first, times, divided, Opens, outside, inside, depth}
 use Rattle.rules.specs.Data.{attribute, pointer, opened, closed, an-integer, a-real, a-moment, a-text, a-symbol, a-unit, sequence}
 use Rattle.rules.specs.Data.{sequence-end, set, set-end, last}
 use Rattle.rules.specs.Values.{significant, nameKept, unreserved}
@@ -62,8 +62,8 @@ unsignedBytes n power =
 abbrev pub realBytes : Real → List ℕ
 realBytes x = minusOnly (x .number .minus) ++ unsignedBytes (x .number .size) (x .power)
 
--- Dates as YYYY-MM-DD,
-abbrev pub dateBytes : Moment → List ℕ
+-- Dates as YYYY-MM-DD. What stands for the mark, `M`, is not looked at, here and below.
+abbrev pub dateBytes : {M : Type 0} → MomentOf M → List ℕ
 dateBytes t = wide 4 (t .year) ++ (byte "-" ∷ (wide 2 (t .month) ++ (byte "-" ∷ wide 2 (t .day))))
 
 -- a fraction without trailing zeros if any,
@@ -71,23 +71,33 @@ abbrev pub fraction : List ℕ → List ℕ
 fraction [] = []
 fraction (b ∷ s) = byte "." ∷ b ∷ s
 
+-- sign, HH:MM: an offset
+abbrev pub offsetBytes : Whole → List ℕ
+offsetBytes w = cond (w .minus) (byte "-") (byte "+") ∷ (wide 2 (w .size / 60) ++ (byte ":" ∷ wide 2 (w .size % 60)))
+
 -- then Z or sign, HH:MM.
 abbrev pub zone : Whole → List ℕ
-zone w =
-    cond (eqb (w .size) 0) (byte "Z" ∷ [])
-    (cond (w .minus) (byte "-") (byte "+") ∷ (wide 2 (w .size / 60) ++ (byte ":" ∷ wide 2 (w .size % 60))))
+zone w = cond (eqb (w .size) 0) (byte "Z" ∷ []) (offsetBytes w)
 
--- HH:MM:SS, fraction, zone
-abbrev pub timeBytes : Moment → List ℕ
-timeBytes t =
+-- HH:MM:SS, fraction, and behind them what ends the time
+abbrev pub timeBytes : {M : Type 0} → List ℕ → MomentOf M → List ℕ
+timeBytes ending t =
     wide 2 (t .hour) ++ (byte ":" ∷ (wide 2 (t .minute) ++ (byte ":" ∷ (wide 2 (t .second)
-    ++ (fraction (significant (wide 9 (t .nanoseconds))) ++ zone (t .offset))))))
+    ++ (fraction (significant (wide 9 (t .nanoseconds))) ++ ending)))))
 
 -- Dates as YYYY-MM-DD, T, HH:MM:SS: a date, a time, or both with T between
-abbrev pub momentBytes : Moment → List ℕ
-momentBytes t =
+abbrev pub dateTimeBytes : {M : Type 0} → List ℕ → MomentOf M → List ℕ
+dateTimeBytes ending t =
     cond (eqb (t .parts) 1) (dateBytes t)
-    (cond (eqb (t .parts) 2) (timeBytes t) (dateBytes t ++ (byte "T" ∷ timeBytes t)))
+    (cond (eqb (t .parts) 2) (timeBytes ending t) (dateBytes t ++ (byte "T" ∷ timeBytes ending t)))
+
+-- Document 02 §6: The written label still ends in Z or a signed zone, as 12.3.2.2 bids.
+abbrev pub momentBytes : {M : Type 0} → MomentOf M → List ℕ
+momentBytes t = dateTimeBytes (zone (t .offset)) t
+
+-- The mark that a reading gives what is written: 0 where there is no time, 1 for Z, 2 for a signed zone
+abbrev pub writtenMark : {M : Type 0} → MomentOf M → ℕ
+writtenMark t = cond (eqb (t .parts) 1) 0 (cond (eqb (t .offset .size) 0) 1 2)
 
 -- ---- the test that a symbol stands bare by
 
@@ -124,7 +134,7 @@ pub data Prior : Type 0 where
   start heading member factor : Prior
 
 -- what each row is to the next
-abbrev pub prior : Sense → Prior
+abbrev pub prior : {S L M : Type 0} → RowOf S L M → Prior
 prior (attribute n) = heading
 prior (pointer n) = heading
 prior (opened k n) = heading
@@ -181,7 +191,7 @@ around outside = outside
 around (inside k n o) = o
 
 -- the blocks that are open after a row
-abbrev pub after : Opens → Sense → Opens
+abbrev pub after : {L M : Type 0} → Opens → RowOf (List ℕ) L M → Opens
 after o (attribute n) = o
 after o (pointer n) = o
 after o (opened k n) = inside k n o

@@ -5,7 +5,7 @@ use mathlib.Core.Path.{_≡_, ap}
 use borrow.Author.Needs.{needs}
 use lib.Dec.{ltb, leb, eqb}
 use Rattle.rules.specs.Values.{monthLength}
-use Rattle.rules.proofs.Machine.Checks.{withinTest, realTest, datedTest, timedTest, undatedTest, untimedTest, momentTest, valueTest}
+use Rattle.rules.proofs.Machine.Checks.{withinTest, realTest, datedTest, markTest, timedTest, undatedTest, untimedTest, momentTest, valueTest}
 use Rattle.words.specs.Says.{whole, realOf, momentOf}
 use Rattle.words.specs.declared.Real.{Real}
 use Rattle.words.specs.declared.Moment.{Moment}
@@ -22,9 +22,9 @@ pub dated-is : (x : Moment) (l : ℕ) → l ≡ monthLength (x .year) (x .month)
     (ltb 0 (x .year) && (ltb (x .year) 10000 && (ltb 0 (x .month) && (ltb (x .month) 13 && (ltb 0 (x .day) && leb (x .day) l))))) ≡ datedTest (momentOf x)
 dated-is x l e = ap (λ (i : ℕ). ltb 0 (x .year) && (ltb (x .year) 10000 && (ltb 0 (x .month) && (ltb (x .month) 13 && (ltb 0 (x .day) && leb (x .day) i))))) e
 
-pub timed-is : (x : Moment) (a : Bool) → a ≡ withinTest 780 (whole (x .west) (x .offset)) →
-    (ltb (x .hour) 24 && (ltb (x .minute) 60 && (ltb (x .second) 60 && (ltb (x .nanoseconds) 1000000000 && a)))) ≡ timedTest (momentOf x)
-timed-is x a e = rw e
+pub timed-is : (x : Moment) (a z : Bool) → a ≡ withinTest 780 (whole (x .west) (x .offset)) → z ≡ markTest (momentOf x) →
+    (ltb (x .hour) 24 && (ltb (x .minute) 60 && (ltb (x .second) 60 && (ltb (x .nanoseconds) 1000000000 && (a && z))))) ≡ timedTest (momentOf x)
+timed-is x a z e f = rw (e, f)
 
 pub moment-is : (x : Moment) (d u t n : Bool) → d ≡ datedTest (momentOf x) → u ≡ undatedTest (momentOf x) → t ≡ timedTest (momentOf x) → n ≡ untimedTest (momentOf x) →
     ((eqb (x .parts) 1 && (d && n)) || ((eqb (x .parts) 2 && (u && t)) || (eqb (x .parts) 3 && (d && t)))) ≡ momentTest (momentOf x)

@@ -1,12 +1,14 @@
-// The value of a row: numbers in their range and as they are held, dates and times that there are.
+// The value of a row: numbers in their range and as they are held, dates and times that there are, with a mark that their zone can have.
 use rows::Row;
 use words::Moment;
+use words::NO_ZONE;
 use words::PAST_INTEGER;
 use words::PAST_NUMBER;
 use words::Real;
+use words::SIGNED_ZONE;
 use words::month_length;
 ghost use mathlib.Core.Path.{_≡_};
-ghost use Rattle.rules.proofs.Machine.Checks.{withinTest, realTest, datedTest, timedTest, undatedTest, untimedTest, momentTest, valueTest};
+ghost use Rattle.rules.proofs.Machine.Checks.{withinTest, realTest, datedTest, markTest, timedTest, undatedTest, untimedTest, momentTest, valueTest};
 ghost use Rattle.words.specs.Says.{whole, realOf, momentOf};
 ghost use Rattle.rows.specs.Rows.{rowOf};
 
@@ -43,11 +45,20 @@ fn dated(x: Moment) -> bool
             & ((0 < x.month) & ((x.month < 13) & ((0 < x.day) & (x.day as u64 <= most)))))
 }
 
+// A signed zone, or none or Z with offset 0.
+fn zone_marked(x: Moment) -> bool
+    ensures { λ r. ⌜ r ≡ markTest (momentOf x) ⌝ }
+{
+    (x.mark == SIGNED_ZONE) | ((x.mark < SIGNED_ZONE) & (x.offset == 0))
+}
+
 fn timed(x: Moment) -> bool
     ensures { λ r. ⌜ r ≡ timedTest (momentOf x) ⌝ }
 {
     let a = within(x.west, x.offset as u64, PAST_OFFSET);
-    (x.hour < 24) & ((x.minute < 60) & ((x.second < 60) & ((x.nanoseconds < 1_000_000_000) & a)))
+    let z = zone_marked(x);
+    (x.hour < 24)
+        & ((x.minute < 60) & ((x.second < 60) & ((x.nanoseconds < 1_000_000_000) & (a & z))))
 }
 
 fn undated(x: Moment) -> bool
@@ -61,7 +72,8 @@ fn untimed(x: Moment) -> bool
 {
     (x.hour == 0)
         & ((x.minute == 0)
-            & ((x.second == 0) & ((x.nanoseconds == 0) & (!x.west & (x.offset == 0)))))
+            & ((x.second == 0)
+                & ((x.nanoseconds == 0) & ((!x.west & (x.offset == 0)) & (x.mark == NO_ZONE)))))
 }
 
 fn moment_held(x: Moment) -> bool

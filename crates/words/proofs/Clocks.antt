@@ -11,21 +11,25 @@ use lib.ListN.{length, take}
 use lib.Pow.{pow-add}
 use lib.Seq.{length-take-le}
 use Rattle.rules.specs.Bytes.{All, digit}
-use Rattle.rules.specs.Values.{number, onto, significant, Day, Zone as ZoneR, Time as TimeR, dayOf, noDay, a-date, a-date-time}
+use Rattle.rules.specs.Values.{number, onto, significant, Day, Zone as ZoneR, signed-zone, Time as TimeR, dayOf, noDay, a-date, a-date-time}
 use Rattle.forms.specs.declared.Clock.{Clock}
 use Rattle.forms.specs.declared.Date.{Date}
 use Rattle.forms.specs.declared.Stamp.{Stamp}
 use Rattle.forms.specs.declared.Stamp.the-variants.{Undated, Dated}
-use Rattle.forms.specs.Forms.{on, dateOf, clockOf, timeOf}
+use Rattle.forms.specs.declared.Span.{Span}
+use Rattle.forms.specs.declared.Zone.{Zone}
+use Rattle.forms.specs.declared.Zone.the-variants.{NoZone, Utc, Offset}
+use Rattle.forms.specs.Forms.{on, dateOf, zoneOf, clockOf, timeOf}
 use Rattle.words.specs.declared.days.Day as code
 use Rattle.words.specs.declared.days.InCalendar.{InCalendar}
 use Rattle.words.specs.declared.days.InCalendar.the-variants.{Missing, On}
+use Rattle.words.specs.declared.Moment as code-moment
 use Rattle.words.specs.declared.Value.{Value}
 use Rattle.words.specs.declared.Value.the-variants.{Time, Past}
 use Rattle.words.specs.Says.{Worth}
 use Rattle.words.specs.Parts.{Significant}
 use Rattle.words.specs.Days.{dayIs, dayIfAny, yearOf}
-use Rattle.words.specs.Times.{nanos, nanosOf, InZone, Timed, InDigits}
+use Rattle.words.specs.Times.{nanos, nanosOf, withOffset, InZone, Timed, InDigits}
 use Rattle.rules.proofs.Tables.ElementLimits.{onto-bound}
 use Rattle.rules.proofs.Tables.Numbers.{pow-positive}
 use Rattle.rules.proofs.Written.PrintedMoments.{significant-all}
@@ -105,29 +109,29 @@ nanos-are ds k n t a s h e f =
 
 -- ---- the zone
 
-module _ (parts : ℕ) (d : Day) (h m s n : ℕ) (z : ZoneR) where
-  pub zone-hour : (x : ℕ) → x ≡ min 10000 (z .hours) → 12 < x → InZone parts d h m s n z Past
-  zone-hour x e k = record { worth = λ w off. rw (lt-leb (z .hours) 12 (omega arith)) }
+module _ (x : code-moment.Moment) (west : Bool) (h m : ℕ) where
+  pub zone-hour : (a : ℕ) → a ≡ min 10000 h → 12 < a → InZone x (signed-zone west h m) Past
+  zone-hour a e k = record { worth = λ w off. rw (lt-leb h 12 (omega arith)) }
 
-  pub zone-minute : (x : ℕ) → x ≡ min 10000 (z .minutes) → 59 < x → InZone parts d h m s n z Past
-  zone-minute x e k = record { worth = λ w off. rw (lt-leb (z .minutes) 59 (omega arith), and-false (leb (z .hours) 12)) }
+  pub zone-minute : (b : ℕ) → b ≡ min 10000 m → 59 < b → InZone x (signed-zone west h m) Past
+  zone-minute b e k = record { worth = λ w off. rw (lt-leb m 59 (omega arith), and-false (leb h 12)) }
 
-  pub zone-kept : (x y : ℕ) → x ≡ min 10000 (z .hours) → y ≡ min 10000 (z .minutes) → x ≤ 12 → y ≤ 59 → InZone parts d h m s n z (Time (record {
-    parts = parts;
-    year = d .year;
-    month = d .month;
-    day = d .day;
-    hour = h;
-    minute = m;
-    second = s;
-    nanoseconds = n;
-    west = z .west && not (eqb (x * 60 + y) 0);
-    offset = x * 60 + y;
-  }))
-  zone-kept x y e f k l =
-      let p : z .hours ≡ x = omega arith in
-      let q : z .minutes ≡ y = omega arith in
-      record { worth = λ w off. rw (p, q, le-leb x 12 k, le-leb y 59 l) }
+  pub zone-kept : (a b : ℕ) (r : Value) → a ≡ min 10000 h → b ≡ min 10000 m → a ≤ 12 → b ≤ 59 → r ≡ Time (withOffset x (west && not (eqb (a * 60 + b) 0)) (a * 60 + b) 2) →
+      InZone x (signed-zone west h m) r
+  zone-kept a b r e f k l q =
+      let p : h ≡ a = omega arith in
+      let o : m ≡ b = omega arith in
+      record { worth = λ w off. rw (q, p, o, le-leb a 12 k, le-leb b 59 l) }
+
+module _ (x : code-moment.Moment) (w : List ℕ) (z : Zone) (r : Value) where
+  pub no-zone-given : z ≡ NoZone → r ≡ Time (withOffset x false 0 0) → InZone x (zoneOf w z) r
+  no-zone-given e q = record { worth = λ v off. rw (q, e) }
+
+  pub Z-given : z ≡ Utc → r ≡ Time (withOffset x false 0 1) → InZone x (zoneOf w z) r
+  Z-given e q = record { worth = λ v off. rw (q, e) }
+
+  pub offset-given : (west : Bool) (h m : Span) → z ≡ Offset west h m → InZone x (signed-zone west (number (on w h)) (number (on w m))) r → InZone x (zoneOf w z) r
+  offset-given west h m e i = rw e i
 
 -- ---- the time
 
@@ -170,7 +174,8 @@ module _ (parts : ℕ) (d : Day) (w : List ℕ) (c : Clock) (z : ZoneR) where
   }
 
   pub time-kept : {r : Value} (h m s n : ℕ) (ds : List ℕ) → h ≡ min 10000 (number (on w (c .hour))) → m ≡ min 10000 (number (on w (c .minute))) → s ≡ min 10000 (number (on w (c .second))) →
-      ds ≡ on w (c .decimals) → n ≡ nanosOf ds → h ≤ 23 → m ≤ 59 → s ≤ 59 → n ≤ 999999999 → InZone parts d h m s n z r → Timed parts d (clockOf w c z) r
+      ds ≡ on w (c .decimals) → n ≡ nanosOf ds → h ≤ 23 → m ≤ 59 → s ≤ 59 → n ≤ 999999999 →
+      InZone (record { parts = parts; year = d .year; month = d .month; day = d .day; hour = h; minute = m; second = s; nanoseconds = n; west = false; offset = 0; mark = 0 }) z r → Timed parts d (clockOf w c z) r
   time-kept h m s n ds eh em es q en kh km ks kn v =
       let f = few (on w (c .decimals)) n (en ∙ ap nanosOf q) kn in
       let a : number (on w (c .hour)) ≡ h = omega (arith, eh, kh) in
@@ -195,6 +200,7 @@ module _ (w : List ℕ) (date : Date) (f : InCalendar) where
     nanoseconds = 0;
     west = false;
     offset = 0;
+    mark = 0;
   }))
   such-day day e q = record { worth = λ v off. rw (e, q) }
 

@@ -70,7 +70,7 @@ abbrev pub realIs : rule.Real → Real
 realIs x = record { minus = x .number .minus; number = x .number .size; below = x .power .minus; power = x .power .size }
 
 abbrev pub momentIs : rule.Moment → Moment
-momentIs x = record { parts = x .parts; year = x .year; month = x .month; day = x .day; hour = x .hour; minute = x .minute; second = x .second; nanoseconds = x .nanoseconds; west = x .offset .minus; offset = x .offset .size }
+momentIs x = record { parts = x .parts; year = x .year; month = x .month; day = x .day; hour = x .hour; minute = x .minute; second = x .second; nanoseconds = x .nanoseconds; west = x .offset .minus; offset = x .offset .size; mark = x .mark }
 
 -- the value that says a verdict; NoForm for an element that no word is
 abbrev valueIs : WordVerdict → Value

@@ -57,6 +57,7 @@ momentOf x = record {
   second = x .second;
   nanoseconds = x .nanoseconds;
   offset = whole (x .west) (x .offset);
+  mark = x .mark;
 }
 
 -- the rules' verdict on the word w that the code's answer stands for

@@ -1,6 +1,6 @@
 -- Terms of the contracts of times: the nanoseconds, and a moment with its zone or with its whole time.
-use Prim.Native.Nat.{ℕ, _+_, _-_, _*_, _^_, _≤_}
-use mathlib.Core.Bool.{Bool, cond, _&&_}
+use Prim.Native.Nat.{ℕ, _-_, _*_, _^_, _≤_}
+use mathlib.Core.Bool.{Bool, cond}
 use mathlib.Core.Option.{Option, none, some}
 use mathlib.Core.Path.{_≡_}
 use mathlib.Core.List.{List}
@@ -8,9 +8,10 @@ use lib.Dec.{leb}
 use lib.ListN.{length}
 use Rattle.rules.specs.Bytes.{All, digit}
 use Rattle.rules.specs.Data.{Moment, moment}
-use Rattle.rules.specs.Values.{number, significant, signed, within, Day, Zone, Time, timeKept, at}
+use Rattle.rules.specs.Values.{number, significant, within, Day, Zone, zoneKept, offsetOf, markOf, Time, timeKept, at}
 use Rattle.rules.specs.Values.{Written, an-identifier, a-whole, a-based, a-decimal, a-date, a-time, a-date-time, a-range}
 use Rattle.rules.proofs.Machine.Words.{limited}
+use Rattle.words.specs.declared.Moment as code
 use Rattle.words.specs.declared.Value.{Value}
 use Rattle.words.specs.Says.{verdictOf}
 use Rattle.words.specs.Days.{yearOf}
@@ -23,24 +24,40 @@ nanos ds = number (significant ds) * 10 ^ (9 - length (significant ds))
 unfoldable pub nanosOf : List ℕ → ℕ
 nanosOf ds = cond (leb (length (significant ds)) 9) (nanos ds) 1000000000
 
--- a moment with the offset of its zone
-abbrev pub momentAt : ℕ → Day → ℕ → ℕ → ℕ → ℕ → Zone → Moment
-momentAt parts d h m s n z = record {
-  parts = parts;
-  year = d .year;
-  month = d .month;
-  day = d .day;
-  hour = h;
-  minute = m;
-  second = s;
-  nanoseconds = n;
-  offset = signed (z .west) (z .hours * 60 + z .minutes);
+-- a moment of the code with another offset and mark
+abbrev pub withOffset : code.Moment → Bool → ℕ → ℕ → code.Moment
+withOffset x west n k = record {
+  parts = x .parts;
+  year = x .year;
+  month = x .month;
+  day = x .day;
+  hour = x .hour;
+  minute = x .minute;
+  second = x .second;
+  nanoseconds = x .nanoseconds;
+  west = west;
+  offset = n;
+  mark = k;
 }
 
--- the answer to a time of which all but the zone is kept
-pub record InZone (parts : ℕ) (d : Day) (h m s n : ℕ) (z : Zone) (r : Value) : Type 0 where
-  pub worth : (w : List ℕ) (off : Bool) →
-      limited (within (leb (z .hours) 12 && leb (z .minutes) 59) (moment (momentAt parts d h m s n z))) ≡ verdictOf w off r
+-- a moment of the code as the rules hold it, in a zone
+abbrev pub momentIn : code.Moment → Zone → Moment
+momentIn x z = record {
+  parts = x .parts;
+  year = x .year;
+  month = x .month;
+  day = x .day;
+  hour = x .hour;
+  minute = x .minute;
+  second = x .second;
+  nanoseconds = x .nanoseconds;
+  offset = offsetOf z;
+  mark = markOf z;
+}
+
+-- the answer to a moment of which all but the zone is kept
+pub record InZone (x : code.Moment) (z : Zone) (r : Value) : Type 0 where
+  pub worth : (w : List ℕ) (off : Bool) → limited (within (zoneKept z) (moment (momentIn x z))) ≡ verdictOf w off r
 
 -- the answer to a time
 pub record Timed (parts : ℕ) (d : Day) (t : Time) (r : Value) : Type 0 where

@@ -56,9 +56,18 @@ pub struct Real {
     pub power: u16,
 }
 
-// A date, a time or both; an absent part is all 0. The offset is in minutes.
+// The marks of a time's zone: none, Z, or a signed one. Where there is no time the mark is that of none.
+pub const NO_ZONE: u8 = 0;
+
+pub const ZONE_Z: u8 = 1;
+
+pub const SIGNED_ZONE: u8 = 2;
+
+// A date, a time or both; an absent part is all 0. The offset is in minutes. The mark stands where a byte is to spare between two others: as the
+// last field it would make every row longer.
 pub struct Moment {
     pub parts: u8,
+    pub mark: u8,
     pub year: u16,
     pub month: u8,
     pub day: u8,

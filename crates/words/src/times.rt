@@ -1,6 +1,9 @@
 // Times: the hour, minute, second and zone of a day or of none.
 use crate::Moment;
+use crate::NO_ZONE;
+use crate::SIGNED_ZONE;
 use crate::Value;
+use crate::ZONE_Z;
 use crate::days::Day;
 use crate::days::InCalendar;
 use crate::days::day_of;
@@ -10,17 +13,19 @@ use crate::numbers::number_onto;
 use crate::reals::without_zeros;
 use forms::Clock;
 use forms::Date;
+use forms::Span;
 use forms::Stamp;
 use forms::Zone;
 ghost use mathlib.Core.Path.{_≡_};
 ghost use mathlib.Core.Bool.{cond};
 ghost use Prim.Native.Nat.{_^_, _≤_, _<_};
 ghost use Rattle.rules.specs.Bytes.{All, digit};
-ghost use Rattle.rules.specs.Values.{a-date, a-date-time};
+ghost use Rattle.rules.specs.Values.{a-date, a-date-time, number, signed-zone};
 ghost use Rattle.forms.specs.Forms.{on, dateOf, zoneOf, clockOf, timeOf};
+ghost use Rattle.words.specs.declared.Value.the-variants.{Time};
 ghost use Rattle.words.specs.Says.{Worth};
 ghost use Rattle.words.specs.Days.{dayIs, yearOf};
-ghost use Rattle.words.specs.Times.{nanosOf, InZone, Timed, InDigits};
+ghost use Rattle.words.specs.Times.{nanosOf, withOffset, InZone, Timed, InDigits};
 
 // A power where it counts, and 1 where it does not.
 fn factor(counts: bool, power: u64) -> u64
@@ -55,21 +60,23 @@ fn nanoseconds(ds: &[u8]) -> u64
     n * t
 }
 
-// A day and a time of it, in a zone whose sign covers both its hour and its minute.
-fn zoned(
-    w: &[u8],
-    parts: u8,
-    day: Day,
-    hour: u8,
-    minute: u8,
-    second: u8,
-    nanos: u32,
-    zone: Zone,
-) -> Value
-    ensures { λ r. ⌜ InZone parts (dayIs day) hour minute second nanos (zoneOf (now (w .entry)) zone) r ⌝ }
+// A moment with this offset and this mark.
+fn in_zone(local: Moment, west: bool, offset: u16, mark: u8) -> Value
+    ensures { λ r. ⌜ r ≡ Time (withOffset local west offset mark) ⌝ }
 {
-    let h = number_of(w, zone.hours);
-    let m = number_of(w, zone.minutes);
+    let mut moment = local;
+    moment.west = west;
+    moment.offset = offset;
+    moment.mark = mark;
+    Value::Time(moment)
+}
+
+// A moment in a signed zone, whose sign covers both its hour and its minute.
+fn offset_by(w: &[u8], local: Moment, west: bool, hours: Span, minutes: Span) -> Value
+    ensures { λ r. ⌜ InZone local (signed-zone west (number (on (now (w .entry)) hours)) (number (on (now (w .entry)) minutes))) r ⌝ }
+{
+    let h = number_of(w, hours);
+    let m = number_of(w, minutes);
     if 12 < h {
         return Value::Past;
     }
@@ -77,18 +84,18 @@ fn zoned(
         return Value::Past;
     }
     let offset = h * 60 + m;
-    Value::Time(Moment {
-        parts,
-        year: day.year,
-        month: day.month,
-        day: day.day,
-        hour,
-        minute,
-        second,
-        nanoseconds: nanos,
-        west: zone.west & (offset != 0),
-        offset: offset as u16,
-    })
+    in_zone(local, west & (offset != 0), offset as u16, SIGNED_ZONE)
+}
+
+// A moment, whatever its zone was, in the zone that is written. No zone and Z both mean offset 0: the mark tells them apart.
+fn zoned(w: &[u8], local: Moment, zone: Zone) -> Value
+    ensures { λ r. ⌜ InZone local (zoneOf (now (w .entry)) zone) r ⌝ }
+{
+    match zone {
+        Zone::NoZone => in_zone(local, false, 0, NO_ZONE),
+        Zone::Utc => in_zone(local, false, 0, ZONE_Z),
+        Zone::Offset(west, hours, minutes) => offset_by(w, local, west, hours, minutes),
+    }
 }
 
 // A day and a time of it.
@@ -112,7 +119,20 @@ pub fn timed(w: &[u8], parts: u8, day: Day, clock: Clock, zone: Zone) -> Value
     if 999_999_999 < n {
         return Value::Past;
     }
-    zoned(w, parts, day, h as u8, m as u8, s as u8, n as u32, zone)
+    let local = Moment {
+        parts,
+        year: day.year,
+        month: day.month,
+        day: day.day,
+        hour: h as u8,
+        minute: m as u8,
+        second: s as u8,
+        nanoseconds: n as u32,
+        west: false,
+        offset: 0,
+        mark: NO_ZONE,
+    };
+    zoned(w, local, zone)
 }
 
 // A day without a time.
@@ -133,6 +153,7 @@ pub fn dated(w: &[u8], date: Date) -> Value
             nanoseconds: 0,
             west: false,
             offset: 0,
+            mark: NO_ZONE,
         }),
     }
 }

@@ -2,7 +2,7 @@
 
 use crate::{Answer, Call, Case};
 use odl_model::random::{self, Random, TableCase};
-use odl_model::{dates, reals, rows};
+use odl_model::{dates, reals, rows, zones};
 use std::collections::BTreeMap;
 use std::ops::RangeInclusive;
 use std::sync::atomic::{AtomicBool, AtomicU64, Ordering};
@@ -24,6 +24,12 @@ pub struct Tally {
     /// whose table was given or that were written, and those that were refused
     /// for it.
     pub dates: BTreeMap<(Call, dates::Case), u64>,
+    /// Each case of zones, of labels that were read, and each of their marks, of
+    /// tables that were handed to the writer, of labels that were read and then
+    /// written, and of tables that the writer refused for it. What was written
+    /// was also read again, and each table also written with other marks: see
+    /// `Case::check`.
+    pub zones: BTreeMap<(Call, zones::Case), u64>,
     /// Tables that the writer refused at a row of no kind, by the run of
     /// `NO_KINDS` that it is of.
     pub no_kinds: [u64; NO_KINDS.len()],
@@ -51,6 +57,9 @@ impl Tally {
         for date in date_cases(case, code) {
             *self.dates.entry((case.call, date)).or_default() += 1;
         }
+        for zone in zone_cases(case, code) {
+            *self.zones.entry((case.call, zone)).or_default() += 1;
+        }
         if let Some(run) = run_of_no_kinds(case, answer) {
             self.no_kinds[run] += 1;
         }
@@ -68,6 +77,9 @@ impl Tally {
         }
         for (key, count) in other.dates {
             *self.dates.entry(key).or_default() += count;
+        }
+        for (key, count) in other.zones {
+            *self.zones.entry(key).or_default() += count;
         }
         for (sum, count) in self.no_kinds.iter_mut().zip(other.no_kinds) {
             *sum += count;
@@ -101,6 +113,16 @@ fn date_cases(case: &Case, code: u8) -> Vec<dates::Case> {
     match (case.call, code) {
         (Call::Read, 0 | 5) => dates::in_label(&case.label),
         (Call::Write, 0 | 12) => dates::in_table(&case.label, &case.table),
+        _ => Vec::new(),
+    }
+}
+
+fn zone_cases(case: &Case, code: u8) -> Vec<zones::Case> {
+    let label = &case.label;
+    match (case.call, code) {
+        (Call::Read, 0) => zones::in_label(label),
+        (Call::Write, 0 | 12) => zones::in_table(label, &case.table),
+        (Call::Rewrite, 0) => zones::in_table(label, &random::table_of(label)),
         _ => Vec::new(),
     }
 }

@@ -4,6 +4,7 @@
 pub mod chance;
 
 use odl::raw;
+use odl_model::zones;
 
 #[derive(Debug, Clone, Copy, PartialEq, Eq, PartialOrd, Ord)]
 pub enum Call {
@@ -138,7 +139,42 @@ impl Case {
         if *self != before {
             return differs("bytes lent for reading were changed".to_string());
         }
+        if library.0 == 0 && !self.is_read_again(&our_room[..written]) {
+            return differs("dates or times are read again as others".to_string());
+        }
+        if !self.is_written_whatever_the_marks(library, &our_room) {
+            return differs("with other marks it is written otherwise".to_string());
+        }
         Ok(library)
+    }
+
+    /// Whether the library reads the dates and times of what it wrote as those
+    /// of the table, each with the mark of its written zone (02 §6).
+    fn is_read_again(&self, written: &[u8]) -> bool {
+        let table = match self.call {
+            Call::Write => self.table.clone(),
+            Call::Rewrite => table_by_library(&self.label),
+            _ => return true,
+        };
+        let expected = zones::moments_once_written(&self.label, &table);
+        expected.is_empty() || zones::moments(written, &table_by_library(written)) == expected
+    }
+
+    /// Whether the library gives this answer and this room also for the tables
+    /// that differ from a proper one in their marks (02 §6).
+    fn is_written_whatever_the_marks(&self, answer: Answer, room: &[u8]) -> bool {
+        let tables = match self.call {
+            Call::Write => zones::remarked(&self.label, &self.table),
+            _ => Vec::new(),
+        };
+        tables.iter().all(|table| {
+            let other = Case {
+                room: self.room,
+                ..Case::over(Call::Write, &self.label, table)
+            };
+            let (same, other_room, _) = lent(self.room, |room| other.library(room));
+            same == answer && other_room == room
+        })
     }
 
     /// Compares with ample room, just enough, one short and none.
@@ -171,6 +207,14 @@ impl Case {
             table,
         )
     }
+}
+
+/// The table that the library reads; none if it refuses the label.
+fn table_by_library(label: &[u8]) -> Vec<u8> {
+    let mut table = ample_room(label);
+    let read = raw::read(label, &mut table);
+    table.truncate(read.length);
+    table
 }
 
 /// Room for the table of any label of this length.

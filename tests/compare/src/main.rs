@@ -49,6 +49,9 @@ fn run(minutes: u64, seed: u64) -> Result<(), String> {
     for ((call, case), count) in &tally.dates {
         println!("{call:?} {case:?}: {count}");
     }
+    for ((call, case), count) in &tally.zones {
+        println!("{call:?} {case:?}: {count}");
+    }
     for (run, count) in chance::NO_KINDS.iter().zip(tally.no_kinds) {
         println!("no row is of kind {run:?}: {count}");
     }

@@ -145,8 +145,10 @@ fn shown(label: &[u8]) -> Vec<Case> {
     let elements = layout::list(label).map_or(Vec::new(), |list| list.elements);
     let mut cases = Vec::new();
     for (_, element) in elements {
-        let (Ok(Kind::Moment(held)), Some(written)) = (words::form(element), taken_apart(element))
-        else {
+        let Ok(Kind::Moment { moment: held, .. }) = words::form(element) else {
+            continue;
+        };
+        let Some(written) = taken_apart(element) else {
             continue;
         };
         cases.extend(written.spelling().map(|spelling| day(held, spelling)));
@@ -159,7 +161,7 @@ fn shown(label: &[u8]) -> Vec<Case> {
 /// The cases of the date that a row holds, if it holds one.
 fn held(row: Row) -> Vec<Case> {
     match row {
-        Row::Moment(held) if held.has_date() => {
+        Row::Moment { moment: held, .. } if held.has_date() => {
             let day = day(held, Spelling::MonthAndDay);
             [day].into_iter().chain(year(held.year)).collect()
         }
@@ -207,7 +209,7 @@ fn refused(word: &[u8]) -> Option<Case> {
 fn improper(label: &[u8], table: &[u8]) -> Option<Case> {
     const KIND: u8 = 12;
     const RIGHT_DATE: [u8; 4] = [0x07, 0xD0, 1, 1];
-    let row = refused_row(label, table, KIND, |mut row: [u8; 15]| {
+    let row = refused_row(label, table, KIND, |mut row: [u8; 16]| {
         row[2..6].copy_from_slice(&RIGHT_DATE);
         row
     })?;

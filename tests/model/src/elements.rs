@@ -15,7 +15,11 @@ pub enum Kind {
     /// Kept apart from `Integer`: it cannot be a unit's exponent.
     BasedInteger(i64),
     Real(Real),
-    Moment(Moment),
+    /// With the mark of its zone (02 §6).
+    Moment {
+        moment: Moment,
+        mark: u8,
+    },
     Text,
     Symbol,
     /// One of `= , * / ^ < > ( ) { }`.

@@ -20,6 +20,7 @@ mod table;
 mod text;
 mod words;
 mod writer;
+pub mod zones;
 
 /// No label, given or written, is longer than this.
 pub const LONGEST_LABEL: usize = 65_535;

@@ -4,8 +4,8 @@
 //! are good ones with a few bytes changed, labels at a limit or just past it,
 //! labels with something much like a sequence of rows, labels with a date that
 //! the calendar has not, or elements strung together without regard for grammar.
-//! Tables are those of good labels, whole or damaged, or hold reals or dates that
-//! come from no label, each with a row and a name to ask for.
+//! Tables are those of good labels, whole or damaged, or hold reals, dates or zones
+//! that come from no label, each with a row and a name to ask for.
 
 use crate::words::{days_in_month, is_leap, Real};
 use crate::{read, LONGEST_LABEL};
@@ -775,7 +775,10 @@ impl<'r> Maker<'r> {
 
     fn zone(&mut self) -> String {
         let sign = self.random.pick(&["+", "-"]);
-        let (hour, minute) = (self.random.below(13), self.random.below(60));
+        let (hour, minute) = match self.random.one_in(4) {
+            true => (0, 0),
+            false => (self.random.below(13), self.random.below(60)),
+        };
         match self.random.below(6) {
             0 => "Z".to_string(),
             1 => "z".to_string(),
@@ -956,12 +959,13 @@ pub struct TableCase {
     pub name: Vec<u8>,
 }
 
-/// A table of a good label, often damaged, or one of reals or dates, with a row
-/// and a name to ask for.
+/// A table of a good label, often damaged, or one of reals, dates or zones, with
+/// a row and a name to ask for.
 pub fn table_case(random: &mut Random) -> TableCase {
-    match random.below(16) {
+    match random.below(20) {
         0 | 1 => return table_of_values(random, put_real),
         2..=4 => return table_of_values(random, put_date),
+        5..=8 => return table_of_values(random, put_zone),
         _ => {}
     }
     let mut label = good_label(random);
@@ -1052,13 +1056,43 @@ fn put_date(random: &mut Random, table: &mut Vec<u8>) {
         _ => some_day(random),
     };
     let (parts, time) = match random.one_in(3) {
-        true => (3, [23, 59, 58, 0, 0, 0, 1, 255, 255]),
-        false => (1, [0; 9]),
+        true => (3, [23, 59, 58, 0, 0, 0, 1, 255, 255, 2]),
+        false => (1, [0; 10]),
     };
     table.extend([12, parts]);
     table.extend(year.to_be_bytes());
     table.extend([month, day]);
     table.extend(time);
+}
+
+/// The row of a time, at times with a date, or of a date alone; one in some has
+/// a mark that no proper table has there (02 §6).
+fn put_zone(random: &mut Random, table: &mut Vec<u8>) {
+    let (parts, date, time) = match random.below(5) {
+        0 => (1, [0x07, 0xC6, 6, 7], [0; 7]),
+        1 | 2 => (2, [0; 4], [15, 24, 12, 0, 0, 0, 1]),
+        _ => (3, [0x07, 0xC6, 6, 7], [15, 24, 12, 0, 0, 0, 1]),
+    };
+    let size = match parts == 1 || random.one_in(3) {
+        true => 0,
+        false => random.pick(&[1, 30, 255, 256, 720, 779]),
+    };
+    let offset: i16 = random.pick(&[size, -size]);
+    let proper: &[u8] = match (parts, offset) {
+        (1, _) => &[0],
+        (_, 0) => &[0, 1, 2],
+        _ => &[2],
+    };
+    let past = 4 + random.below(251) as u8;
+    let mark = match random.one_in(5) {
+        true => random.pick(&[0, 1, 2, 3, past, u8::MAX]),
+        false => random.pick(proper),
+    };
+    table.extend([12, parts]);
+    table.extend(date);
+    table.extend(time);
+    table.extend(offset.to_be_bytes());
+    table.push(mark);
 }
 
 /// The table of a label, or the smallest proper one if it has none.
@@ -1163,7 +1197,7 @@ fn row_length(kind: u8) -> usize {
         1..=3 | 5 | 13 | 14 => 5,
         10 => 9,
         11 => 11,
-        12 => 15,
+        12 => 16,
         15 => 7,
         99 => 3,
         _ => 1,

@@ -241,7 +241,7 @@ impl Reader<'_> {
         let row = match self.element.kind {
             Kind::Integer(value) | Kind::BasedInteger(value) => Row::Integer(value),
             Kind::Real(real) => Row::Real(real),
-            Kind::Moment(moment) => Row::Moment(moment),
+            Kind::Moment { moment, mark } => Row::Moment { moment, mark },
             Kind::Text => Row::Text(self.span_inside()),
             Kind::Symbol => Row::Symbol(self.span_inside()),
             Kind::Name => Row::Symbol(self.span()),

@@ -39,7 +39,11 @@ pub enum Row {
     EndGroup,
     Integer(i64),
     Real(Real),
-    Moment(Moment),
+    /// With the mark of its zone (02 §6), which is no part of the meaning.
+    Moment {
+        moment: Moment,
+        mark: u8,
+    },
     Text(Span),
     Symbol(Span),
     Unit {
@@ -72,7 +76,10 @@ impl Row {
                 out.extend_from_slice(&real.number.to_be_bytes());
                 out.extend_from_slice(&real.power.to_be_bytes());
             }
-            Row::Moment(moment) => encode_moment(out, moment),
+            Row::Moment { moment, mark } => {
+                encode_moment(out, moment);
+                out.push(mark);
+            }
             Row::Text(span) => encode_span(out, 13, span),
             Row::Symbol(span) => encode_span(out, 14, span),
             Row::Unit {
@@ -98,7 +105,7 @@ impl Row {
 
     /// The row at the start of these bytes and its length, if a whole row of
     /// a known kind stands there.
-    fn decode(bytes: &[u8]) -> Option<(Row, usize)> {
+    pub fn decode(bytes: &[u8]) -> Option<(Row, usize)> {
         let (&kind, rest) = bytes.split_first()?;
         let body = rest.get(..body_length(kind)?)?;
         let row = match kind {
@@ -113,7 +120,10 @@ impl Row {
                 number: signed(&body[..8]),
                 power: signed(&body[8..]) as i16,
             }),
-            12 => Row::Moment(decode_moment(body)),
+            12 => Row::Moment {
+                moment: decode_moment(body),
+                mark: body[14],
+            },
             13 => Row::Text(span(body)),
             14 => Row::Symbol(span(body)),
             15 => Row::Unit {
@@ -135,7 +145,7 @@ impl Row {
     }
 
     fn is_scalar(self) -> bool {
-        self.is_number() || matches!(self, Row::Moment(_) | Row::Text(_) | Row::Symbol(_))
+        self.is_number() || matches!(self, Row::Moment { .. } | Row::Text(_) | Row::Symbol(_))
     }
 
     /// Whether the row could stand in some proper table over this label.
@@ -149,7 +159,7 @@ impl Row {
             }
             Row::Integer(value) => value != i64::MIN,
             Row::Real(real) => real.is_held(),
-            Row::Moment(moment) => moment.is_held(),
+            Row::Moment { moment, mark } => moment.is_held() && moment.may_have(mark),
             Row::Text(span) => holds(label, span, |text| text.iter().all(|&b| is_text_byte(b))),
             Row::Symbol(span) => holds(label, span, is_symbol),
             Row::Last(end) => end <= label.len(),
@@ -176,7 +186,7 @@ fn body_length(kind: u8) -> Option<usize> {
         1..=3 | 5 | 13 | 14 => Some(4),
         10 => Some(8),
         11 => Some(10),
-        12 => Some(14),
+        12 => Some(15),
         15 => Some(6),
         99 => Some(2),
         _ => None,

@@ -40,7 +40,10 @@ impl Real {
     }
 }
 
-/// A date, a time or both; the fields of an absent part are 0.
+/// A date, a time or both, as it is meant; the fields of an absent part are 0.
+///
+/// How the zone was written is told by a mark (02 §6). It is no part of the
+/// meaning, so it is no field here: a word and a row have it beside the moment.
 #[derive(Debug, Clone, Copy, PartialEq, Eq, Default)]
 pub struct Moment {
     pub parts: u8,
@@ -58,6 +61,12 @@ pub struct Moment {
 impl Moment {
     pub const DATE: u8 = 1;
     pub const TIME: u8 = 2;
+
+    /// The mark of a time without a zone, and where there is no time.
+    pub const NO_ZONE: u8 = 0;
+    /// The mark of `Z` or `z`.
+    pub const Z: u8 = 1;
+    pub const SIGNED_ZONE: u8 = 2;
 
     pub fn has_date(self) -> bool {
         self.parts & Self::DATE != 0
@@ -91,6 +100,16 @@ impl Moment {
             && self.nanoseconds <= nanoseconds
             && (-offset..=offset).contains(&self.offset)
     }
+
+    /// Whether a row may hold this mark beside the moment.
+    pub fn may_have(self, mark: u8) -> bool {
+        match mark {
+            Self::NO_ZONE => self.offset == 0,
+            Self::Z => self.offset == 0 && self.has_time(),
+            Self::SIGNED_ZONE => self.has_time(),
+            _ => false,
+        }
+    }
 }
 
 /// The form of a word, or why it has none.
@@ -102,7 +121,9 @@ pub fn form(word: &[u8]) -> Result<Kind, u8> {
     let leading = parts.digits();
     match parts.rest.first() {
         Some(b'#') if !leading.is_empty() => based_integer(word).map(Kind::BasedInteger),
-        Some(b'-' | b':') if !leading.is_empty() => moment(word).map(Kind::Moment),
+        Some(b'-' | b':') if !leading.is_empty() => {
+            moment(word).map(|(moment, mark)| Kind::Moment { moment, mark })
+        }
         _ => number(word),
     }
 }
@@ -336,12 +357,50 @@ struct WrittenTime<'a> {
     minute: u16,
     second: u16,
     decimals: &'a [u8],
-    zone_minus: bool,
-    zone_hour: u16,
-    zone_minute: u16,
+    zone: WrittenZone,
 }
 
-fn moment(word: &[u8]) -> Result<Moment, u8> {
+#[derive(Clone, Copy)]
+enum WrittenZone {
+    None,
+    /// `Z` or `z`.
+    Z,
+    Signed {
+        minus: bool,
+        hour: u16,
+        minute: u16,
+    },
+}
+
+impl WrittenZone {
+    fn mark(self) -> u8 {
+        match self {
+            WrittenZone::None => Moment::NO_ZONE,
+            WrittenZone::Z => Moment::Z,
+            WrittenZone::Signed { .. } => Moment::SIGNED_ZONE,
+        }
+    }
+
+    /// In minutes.
+    fn offset(self) -> Result<i16, u8> {
+        match self {
+            WrittenZone::None | WrittenZone::Z => Ok(0),
+            WrittenZone::Signed { hour, minute, .. } if hour > 12 || minute > 59 => Err(PAST_LIMIT),
+            // The sign covers hour and minute, so it is put on their sum.
+            WrittenZone::Signed {
+                minus,
+                hour,
+                minute,
+            } => {
+                let offset = (hour * 60 + minute) as i16;
+                Ok(if minus { -offset } else { offset })
+            }
+        }
+    }
+}
+
+/// The moment that a word holds, and the mark of its zone.
+fn moment(word: &[u8]) -> Result<(Moment, u8), u8> {
     let mut parts = Parts { rest: word };
     let starts_with_date = word.iter().find(|byte| !byte.is_ascii_digit()) == Some(&b'-');
     let date = starts_with_date
@@ -355,10 +414,12 @@ fn moment(word: &[u8]) -> Result<Moment, u8> {
     if let Some(date) = date {
         hold_date(&mut held, date)?;
     }
+    let mut mark = Moment::NO_ZONE;
     if let Some(time) = time {
+        mark = time.zone.mark();
         hold_time(&mut held, time)?;
     }
-    Ok(held)
+    Ok((held, mark))
 }
 
 fn written_date(parts: &mut Parts) -> Result<WrittenDate, u8> {
@@ -391,9 +452,7 @@ fn written_time<'a>(parts: &mut Parts<'a>) -> Result<WrittenTime<'a>, u8> {
         minute,
         second: 0,
         decimals: &[],
-        zone_minus: false,
-        zone_hour: 0,
-        zone_minute: 0,
+        zone: WrittenZone::None,
     };
     if parts.take(b':') {
         time.second = parts.field(1, 2)?;
@@ -401,17 +460,27 @@ fn written_time<'a>(parts: &mut Parts<'a>) -> Result<WrittenTime<'a>, u8> {
             time.decimals = parts.digits();
         }
     }
-    if parts.take(b'Z') {
-        return Ok(time);
-    }
-    if let Some(minus) = parts.sign() {
-        time.zone_minus = minus;
-        time.zone_hour = parts.field(1, 2)?;
-        if parts.take(b':') {
-            time.zone_minute = parts.field(1, 2)?;
-        }
-    }
+    time.zone = written_zone(parts)?;
     Ok(time)
+}
+
+fn written_zone(parts: &mut Parts) -> Result<WrittenZone, u8> {
+    if parts.take(b'Z') {
+        return Ok(WrittenZone::Z);
+    }
+    let Some(minus) = parts.sign() else {
+        return Ok(WrittenZone::None);
+    };
+    let hour = parts.field(1, 2)?;
+    let minute = match parts.take(b':') {
+        true => parts.field(1, 2)?,
+        false => 0,
+    };
+    Ok(WrittenZone::Signed {
+        minus,
+        hour,
+        minute,
+    })
 }
 
 fn hold_date(held: &mut Moment, date: WrittenDate) -> Result<(), u8> {
@@ -433,17 +502,12 @@ fn hold_time(held: &mut Moment, time: WrittenTime) -> Result<(), u8> {
     if time.hour > 23 || time.minute > 59 || time.second > 59 {
         return Err(PAST_LIMIT);
     }
-    if time.zone_hour > 12 || time.zone_minute > 59 {
-        return Err(PAST_LIMIT);
-    }
-    let offset = (time.zone_hour * 60 + time.zone_minute) as i16;
     held.parts |= Moment::TIME;
     held.hour = time.hour as u8;
     held.minute = time.minute as u8;
     held.second = time.second as u8;
     held.nanoseconds = nanoseconds(time.decimals)?;
-    // The sign covers hour and minute, so it is put on their sum.
-    held.offset = if time.zone_minus { -offset } else { offset };
+    held.offset = time.zone.offset()?;
     Ok(())
 }
 

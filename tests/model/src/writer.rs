@@ -135,7 +135,7 @@ impl Writer<'_> {
         match rows[0].1 {
             Row::Integer(value) => self.out.put_text(&value.to_string()),
             Row::Real(real) => self.out.put_text(&real_text(real)),
-            Row::Moment(moment) => self.out.put_text(&moment_text(moment)),
+            Row::Moment { moment, .. } => self.out.put_text(&moment_text(moment)),
             Row::Symbol(span) => self.symbol(span),
             Row::Text(span) => {
                 self.out.put_text("\"");

@@ -40,8 +40,12 @@ abbrev pub datedTest : Moment → Bool
 datedTest t =
     ltb 0 (t .year) && (ltb (t .year) 10000 && (ltb 0 (t .month) && (ltb (t .month) 13 && (ltb 0 (t .day) && leb (t .day) (monthLength (t .year) (t .month))))))
 
+-- a signed zone, or none or Z with offset 0
+abbrev pub markTest : Moment → Bool
+markTest t = eqb (t .mark) 2 || (ltb (t .mark) 2 && eqb (t .offset .size) 0)
+
 abbrev pub timedTest : Moment → Bool
-timedTest t = ltb (t .hour) 24 && (ltb (t .minute) 60 && (ltb (t .second) 60 && (ltb (t .nanoseconds) (10 ^ 9) && withinTest 780 (t .offset))))
+timedTest t = ltb (t .hour) 24 && (ltb (t .minute) 60 && (ltb (t .second) 60 && (ltb (t .nanoseconds) (10 ^ 9) && (withinTest 780 (t .offset) && markTest t))))
 
 abbrev pub undatedTest : Moment → Bool
 undatedTest t = eqb (t .year) 0 && (eqb (t .month) 0 && eqb (t .day) 0)
@@ -51,7 +55,7 @@ abbrev pub zeroTest : Whole → Bool
 zeroTest w = not (w .minus) && eqb (w .size) 0
 
 abbrev pub untimedTest : Moment → Bool
-untimedTest t = eqb (t .hour) 0 && (eqb (t .minute) 0 && (eqb (t .second) 0 && (eqb (t .nanoseconds) 0 && zeroTest (t .offset))))
+untimedTest t = eqb (t .hour) 0 && (eqb (t .minute) 0 && (eqb (t .second) 0 && (eqb (t .nanoseconds) 0 && (zeroTest (t .offset) && eqb (t .mark) 0))))
 
 abbrev pub momentTest : Moment → Bool
 momentTest t =

@@ -35,8 +35,8 @@ opNumbered (suc (suc n)) = divided
 
 abbrev pub momentThen : List ℕ → Decoded
 momentThen s =
-    byteThen s (λ p s. field 2 0 s (λ y s. byteThen s (λ m s. byteThen s (λ d s. byteThen s (λ h s. byteThen s (λ i s. byteThen s (λ c s. field 4 0 s (λ n s. field 2 0 s (λ o s.
-    got (a-moment (record { parts = p; year = y; month = m; day = d; hour = h; minute = i; second = c; nanoseconds = n; offset = fromTwos 2 o })) s)))))))))
+    byteThen s (λ p s. field 2 0 s (λ y s. byteThen s (λ m s. byteThen s (λ d s. byteThen s (λ h s. byteThen s (λ i s. byteThen s (λ c s. field 4 0 s (λ n s. field 2 0 s (λ o s. byteThen s (λ z s.
+    got (a-moment (record { parts = p; year = y; month = m; day = d; hour = h; minute = i; second = c; nanoseconds = n; offset = fromTwos 2 o; mark = z })) s))))))))))
 
 abbrev pub unitThen : ℕ → List ℕ → Decoded
 unitThen op s = field 2 0 s (λ a s. field 2 0 s (λ b s. field 1 0 s (λ v s. got (a-unit (opNumbered op) (record { from = a; upto = b }) (fromTwos 1 v)) s)))

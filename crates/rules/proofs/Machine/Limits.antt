@@ -2,6 +2,7 @@
 use Prim.Native.Nat.{ℕ, _≤_, _<_, _%_, _^_}
 use mathlib.Core.Path.{_≡_}
 use mathlib.Core.Bool.{false}
+use mathlib.Core.Logic.{_⊎_}
 use Rattle.rules.specs.Data.{Whole, Real, Moment, Elem, name, the, end, integer, based, real, moment, range, text, symbol, Placed, _on_, RowOf, attribute, pointer, opened, closed, an-integer, a-real, a-moment, a-text, a-symbol, a-unit, sequence, sequence-end, set, set-end, last, Span, Row}
 use Rattle.rules.specs.Values.{monthLength}
 
@@ -25,12 +26,17 @@ pub record Dated (t : Moment) : Type 0 where
   pub day-least : 0 < t .day
   pub day-most : t .day ≤ monthLength (t .year) (t .month)
 
+-- a mark and the size of an offset: a signed zone, or none or Z with offset 0
+abbrev pub Marked : ℕ → ℕ → Type 0
+Marked k n = (k ≡ 2) ⊎ ((k < 2) × (n ≡ 0))
+
 pub record Timed (t : Moment) : Type 0 where
   pub hour-most : t .hour < 24
   pub minute-most : t .minute < 60
   pub second-most : t .second < 60
   pub nanoseconds-most : t .nanoseconds < 10 ^ 9
   pub offset-most : Within 780 (t .offset)
+  pub marked : Marked (t .mark) (t .offset .size)
 
 -- an absent part is all 0
 pub record Undated (t : Moment) : Type 0 where
@@ -44,6 +50,7 @@ pub record Untimed (t : Moment) : Type 0 where
   pub second : t .second ≡ 0
   pub nanoseconds : t .nanoseconds ≡ 0
   pub offset : t .offset ≡ record { minus = false; size = 0 }
+  pub mark : t .mark ≡ 0
 
 pub data MomentHeld (t : Moment) : Type 0 where
   date-alone : t .parts ≡ 1 → Dated t → Untimed t → MomentHeld t
@@ -80,7 +87,7 @@ abbrev pub PossibleAt : Placed → Type 0
 PossibleAt (e on p) = Possible e
 
 -- the values of rows
-abbrev pub Valued : {S L : Type 0} → RowOf S L → Type 0
+abbrev pub Valued : {S L : Type 0} → RowOf S L ℕ → Type 0
 Valued (attribute p) = Unit {0}
 Valued (pointer p) = Unit {0}
 Valued (opened k p) = Unit {0}

@@ -18,7 +18,7 @@ unit-sort first = s-unit-first
 unit-sort times = s-unit-more
 unit-sort divided = s-unit-more
 
-abbrev pub sort : {S L : Type 0} → RowOf S L → Sort
+abbrev pub sort : {S L M : Type 0} → RowOf S L M → Sort
 sort (attribute p) = s-attribute
 sort (pointer p) = s-pointer
 sort (opened k p) = s-opened k
@@ -102,11 +102,11 @@ lines (t-member g) o = after-lines (within g) o
 abbrev pub sort-step : Await → Kinds → Sort → To
 sort-step t o s = look (lines t o) s
 
-pub data RowRun {S L : Type 0} : Await → Kinds → List (RowOf S L) → Await → Kinds → Type 0 where
+pub data RowRun {S L M : Type 0} : Await → Kinds → List (RowOf S L M) → Await → Kinds → Type 0 where
   row-here : {t : Await} {o : Kinds} → RowRun t o [] t o
-  row-by : {t t′ t″ : Await} {o o′ o″ : Kinds} {r : RowOf S L} {rs : List (RowOf S L)} → sort-step t o (sort r) ≡ to t′ o′ → RowRun t′ o′ rs t″ o″ → RowRun t o (r ∷ rs) t″ o″
+  row-by : {t t′ t″ : Await} {o o′ o″ : Kinds} {r : RowOf S L M} {rs : List (RowOf S L M)} → sort-step t o (sort r) ≡ to t′ o′ → RowRun t′ o′ rs t″ o″ → RowRun t o (r ∷ rs) t″ o″
 
-abbrev pub RowAccepts : {S L : Type 0} → Await → Kinds → List (RowOf S L) → Type 0
+abbrev pub RowAccepts : {S L M : Type 0} → Await → Kinds → List (RowOf S L M) → Type 0
 RowAccepts t o rs = RowRun t o rs t-end []
 
 -- the same as a function
@@ -114,7 +114,7 @@ abbrev pub carried : To → (Await → Kinds → To) → To
 carried to-none f = to-none
 carried (to t o) f = f t o
 
-abbrev pub row-run : {S L : Type 0} → Await → Kinds → List (RowOf S L) → To
+abbrev pub row-run : {S L M : Type 0} → Await → Kinds → List (RowOf S L M) → To
 row-run t o [] = to t o
 row-run t o (r ∷ rs) = carried (sort-step t o (sort r)) (λ t′ o′. row-run t′ o′ rs)
 

@@ -8,7 +8,7 @@ use lib.ListN.{length}
 use Rattle.rules.specs.Bytes.{between, digit, letter, alnum, fold, front, pair}
 use Rattle.rules.specs.Data.{Whole, Elem}
 use Rattle.rules.specs.Modes.{Mode}
-use Rattle.rules.specs.Values.{Date, in-year, in-month, Zone, utc, Second, Time, Written, an-identifier, a-whole, a-based, a-decimal, a-date, a-time, a-date-time, a-range, number, signed, value}
+use Rattle.rules.specs.Values.{Date, in-year, in-month, Zone, no-zone, utc, signed-zone, Second, Time, Written, an-identifier, a-whole, a-based, a-decimal, a-date, a-time, a-date-time, a-range, number, signed, value}
 use Rattle.rules.specs.Words.{isIdentifier, Form, Past, Formless}
 use Rattle.rules.proofs.Machine.Patterns.{G, stop, whole, byte, check, run, fork, matches}
 use Rattle.rules.proofs.Machine.Splits.{isNil}
@@ -45,7 +45,7 @@ g-based r = g-signs (λ s neg. run alnum some-of (λ ds. byte 35 (stop (a-based 
 
 -- a zone by its sign, hours and minutes
 abbrev pub zoneAt : Bool → List ℕ → ℕ → Zone
-zoneAt w h mi = record { west = w; hours = number h; minutes = mi }
+zoneAt w h mi = signed-zone w (number h) mi
 
 -- a zone: behind its sign; at all
 abbrev pub g-offset : Bool → (Zone → Written) → G
@@ -53,7 +53,7 @@ g-offset w k = run digit (between 1 2) (λ h. fork isNil (stop (k (zoneAt w h 0)
 
 abbrev pub g-zone : (Zone → Written) → G
 g-zone k =
-    fork isNil (stop (k utc)) (fork (next-is 90) (byte 90 (stop (k utc))) (fork (next-is 122) (byte 122 (stop (k utc)))
+    fork isNil (stop (k no-zone)) (fork (next-is 90) (byte 90 (stop (k utc))) (fork (next-is 122) (byte 122 (stop (k utc)))
     (fork (next-is 45) (byte 45 (g-offset true k)) (byte 43 (g-offset false k)))))
 
 -- seconds by their digits and decimals; seconds, or none

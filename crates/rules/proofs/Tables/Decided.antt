@@ -14,8 +14,8 @@ use Rattle.rules.specs.Proper.{stretch, NameWord, TextBody, SymbolBody, 
 use Rattle.rules.proofs.Tables.Tests.{and-true, and-left, and-right, as-not, not-as}
 use Rattle.rules.proofs.Machine.Checks.{isText, isSymbol}
 use Rattle.rules.proofs.Tables.Contents.{name-test, text-body, symbol-body}
-use Rattle.rules.proofs.Machine.Limits.{Within, RealHeld, Dated, Timed, Undated, Untimed, MomentHeld, date-alone, time-alone, date-and-time, Valued}
-use Rattle.rules.proofs.Machine.Checks.{withinTest, realTest, datedTest, timedTest, undatedTest, zeroTest, untimedTest, momentTest, valueTest, heldTest, spanTest}
+use Rattle.rules.proofs.Machine.Limits.{Within, RealHeld, Dated, Marked, Timed, Undated, Untimed, MomentHeld, date-alone, time-alone, date-and-time, Valued}
+use Rattle.rules.proofs.Machine.Checks.{withinTest, realTest, datedTest, markTest, timedTest, undatedTest, zeroTest, untimedTest, momentTest, valueTest, heldTest, spanTest}
 
 -- ---- tests that decide
 
@@ -75,11 +75,14 @@ dated-decides t =
     (both _ _ (below 0 (t .year)) (both _ _ (below (t .year) 10000) (both _ _ (below 0 (t .month)) (both _ _ (below (t .month) 13)
     (both _ _ (below 0 (t .day)) (most (t .day) (monthLength (t .year) (t .month))))))))
 
+marked-decides : (t : Moment) → Decides (Marked (t .mark) (t .offset .size)) (markTest t)
+marked-decides t = either _ _ (equal (t .mark) 2) (both _ _ (below (t .mark) 2) (equal (t .offset .size) 0))
+
 timed-decides : (t : Moment) → Decides (Timed t) (timedTest t)
 timed-decides t =
-    by-way (λ h. record { hour-most = h .0; minute-most = h .1 .0; second-most = h .1 .1 .0; nanoseconds-most = h .1 .1 .1 .0; offset-most = h .1 .1 .1 .1 })
-    (λ h. (h .hour-most, (h .minute-most, (h .second-most, (h .nanoseconds-most, h .offset-most)))))
-    (both _ _ (below (t .hour) 24) (both _ _ (below (t .minute) 60) (both _ _ (below (t .second) 60) (both _ _ (below (t .nanoseconds) (10 ^ 9)) (within-decides 780 (t .offset))))))
+    by-way (λ h. record { hour-most = h .0; minute-most = h .1 .0; second-most = h .1 .1 .0; nanoseconds-most = h .1 .1 .1 .0; offset-most = h .1 .1 .1 .1 .0; marked = h .1 .1 .1 .1 .1 })
+    (λ h. (h .hour-most, (h .minute-most, (h .second-most, (h .nanoseconds-most, (h .offset-most, h .marked))))))
+    (both _ _ (below (t .hour) 24) (both _ _ (below (t .minute) 60) (both _ _ (below (t .second) 60) (both _ _ (below (t .nanoseconds) (10 ^ 9)) (both _ _ (within-decides 780 (t .offset)) (marked-decides t))))))
 
 undated-decides : (t : Moment) → Decides (Undated t) (undatedTest t)
 undated-decides t =
@@ -93,9 +96,9 @@ zero-decides w =
 
 untimed-decides : (t : Moment) → Decides (Untimed t) (untimedTest t)
 untimed-decides t =
-    by-way (λ h. record { hour = h .0; minute = h .1 .0; second = h .1 .1 .0; nanoseconds = h .1 .1 .1 .0; offset = h .1 .1 .1 .1 })
-    (λ h. (h .hour, (h .minute, (h .second, (h .nanoseconds, h .offset)))))
-    (both _ _ (equal (t .hour) 0) (both _ _ (equal (t .minute) 0) (both _ _ (equal (t .second) 0) (both _ _ (equal (t .nanoseconds) 0) (zero-decides (t .offset))))))
+    by-way (λ h. record { hour = h .0; minute = h .1 .0; second = h .1 .1 .0; nanoseconds = h .1 .1 .1 .0; offset = h .1 .1 .1 .1 .0; mark = h .1 .1 .1 .1 .1 })
+    (λ h. (h .hour, (h .minute, (h .second, (h .nanoseconds, (h .offset, h .mark))))))
+    (both _ _ (equal (t .hour) 0) (both _ _ (equal (t .minute) 0) (both _ _ (equal (t .second) 0) (both _ _ (equal (t .nanoseconds) 0) (both _ _ (zero-decides (t .offset)) (equal (t .mark) 0))))))
 
 abbrev Parts : Moment → Type 0
 Parts t = ((t .parts ≡ 1) × (Dated t × Untimed t)) ⊎ (((t .parts ≡ 2) × (Undated t × Timed t)) ⊎ ((t .parts ≡ 3) × (Dated t × Timed t)))

@@ -75,13 +75,13 @@ op-back first = refl
 op-back times = refl
 op-back divided = refl
 
-moment-back : (t : Moment) (s : List ℕ) → Codes (a-moment t) → momentThen (t .parts ∷ ((bytes 2 (t .year) ++ (t .month ∷ t .day ∷ t .hour ∷ t .minute ∷ t .second ∷ (bytes 4 (t .nanoseconds) ++ complement 2 (t .offset)))) ++ s)) ≡ got (a-moment t) s
+moment-back : (t : Moment) (s : List ℕ) → Codes (a-moment t) → momentThen (t .parts ∷ ((bytes 2 (t .year) ++ (t .month ∷ t .day ∷ t .hour ∷ t .minute ∷ t .second ∷ (bytes 4 (t .nanoseconds) ++ (complement 2 (t .offset) ++ (t .mark ∷ []))))) ++ s)) ≡ got (a-moment t) s
 moment-back t s h =
-    let u : List ℕ = complement 2 (t .offset) ++ s in
+    let u : List ℕ = complement 2 (t .offset) ++ (t .mark ∷ s) in
     let v : List ℕ = t .month ∷ t .day ∷ t .hour ∷ t .minute ∷ t .second ∷ (bytes 4 (t .nanoseconds) ++ u) in
     simp append-assoc
-    (field-big 2 (t .year) v _ (h .0) ∙ field-big 4 (t .nanoseconds) u _ (omega (arith, h .1)) ∙ field-twos 2 (2 ^ 15) (t .offset) s _ (h .2) (omega arith)
-    ∙ ap (λ (i : Whole). got (a-moment (record { parts = t .parts; year = t .year; month = t .month; day = t .day; hour = t .hour; minute = t .minute; second = t .second; nanoseconds = t .nanoseconds; offset = i })) s)
+    (field-big 2 (t .year) v _ (h .0) ∙ field-big 4 (t .nanoseconds) u _ (omega (arith, h .1)) ∙ field-twos 2 (2 ^ 15) (t .offset) (t .mark ∷ s) _ (h .2) (omega arith)
+    ∙ ap (λ (i : Whole). got (a-moment (record { parts = t .parts; year = t .year; month = t .month; day = t .day; hour = t .hour; minute = t .minute; second = t .second; nanoseconds = t .nanoseconds; offset = i; mark = t .mark })) s)
     (signed-twos 2 (2 ^ 15) (t .offset) (h .2) (omega arith)))
 
 pub decode-encode : (r : Row) (s : List ℕ) → Codes r → decode (encode r ++ s) ≡ got r s

@@ -152,21 +152,21 @@ unit-row k s r t e h =
     (ap₂ (λ (x : ℕ) (l : List ℕ). 15 ∷ x ∷ ((bytes 2 u ++ bytes 2 v) ++ l)) (op-byte o small) (twos-signed 1 w l₄))))))
     (λ large h₂. absurd (nothing-got h₂)))
 
-moment-split : {s s₁ s₂ s₃ s₄ s₅ s₆ s₇ s₈ s₉ t : List ℕ} (p m d i j c : ℕ) (y n z : List ℕ) → s ≡ p ∷ s₁ → s₁ ≡ y ++ s₂ → s₂ ≡ m ∷ s₃ → s₃ ≡ d ∷ s₄ → s₄ ≡ i ∷ s₅ → s₅ ≡ j ∷ s₆ → s₆ ≡ c ∷ s₇ →
-    s₇ ≡ n ++ s₈ → s₈ ≡ z ++ s₉ → s₉ ≡ t → s ≡ (p ∷ (y ++ (m ∷ d ∷ i ∷ j ∷ c ∷ (n ++ z)))) ++ t
-moment-split p m d i j c y n z e₁ e₂ e₃ e₄ e₅ e₆ e₇ e₈ e₉ e =
+moment-split : {s s₁ s₂ s₃ s₄ s₅ s₆ s₇ s₈ s₉ s₁₀ t : List ℕ} (p m d i j c k : ℕ) (y n z : List ℕ) → s ≡ p ∷ s₁ → s₁ ≡ y ++ s₂ → s₂ ≡ m ∷ s₃ → s₃ ≡ d ∷ s₄ → s₄ ≡ i ∷ s₅ → s₅ ≡ j ∷ s₆ → s₆ ≡ c ∷ s₇ →
+    s₇ ≡ n ++ s₈ → s₈ ≡ z ++ s₉ → s₉ ≡ k ∷ s₁₀ → s₁₀ ≡ t → s ≡ (p ∷ (y ++ (m ∷ d ∷ i ∷ j ∷ c ∷ (n ++ (z ++ (k ∷ [])))))) ++ t
+moment-split p m d i j c k y n z e₁ e₂ e₃ e₄ e₅ e₆ e₇ e₈ e₉ e₁₀ e =
     e₁ ∙ ap (λ (l : List ℕ). p ∷ l) (e₂ ∙ ap (λ (l : List ℕ). y ++ l) (e₃ ∙ ap (λ (l : List ℕ). m ∷ l) (e₄ ∙ ap (λ (l : List ℕ). d ∷ l) (e₅ ∙ ap (λ (l : List ℕ). i ∷ l) (e₆ ∙ ap (λ (l : List ℕ). j ∷ l)
-    (e₇ ∙ ap (λ (l : List ℕ). c ∷ l) (e₈ ∙ ap (λ (l : List ℕ). n ++ l) (e₉ ∙ ap (λ (l : List ℕ). z ++ l) e))))))) ∙ simp append-assoc)
+    (e₇ ∙ ap (λ (l : List ℕ). c ∷ l) (e₈ ∙ ap (λ (l : List ℕ). n ++ l) (e₉ ∙ ap (λ (l : List ℕ). z ++ l) (e₁₀ ∙ ap (λ (l : List ℕ). k ∷ l) e)))))))) ∙ simp append-assoc)
 
 moment-row : (k : ℕ) (s : List ℕ) (r : Row) (t : List ℕ) → k ≡ 12 → momentThen s ≡ got r t → Is k s r t
 moment-row k s r t e h =
     let P : Type 0 = Is k s r t in
     byte-on s _ P h (λ p s₁ e₁ h. field-on 2 s₁ _ P h (λ y s₂ e₂ l₂ h. byte-on s₂ _ P h (λ m s₃ e₃ h. byte-on s₃ _ P h (λ d s₄ e₄ h. byte-on s₄ _ P h (λ i s₅ e₅ h.
-    byte-on s₅ _ P h (λ j s₆ e₆ h. byte-on s₆ _ P h (λ c s₇ e₇ h. field-on 4 s₇ _ P h (λ n s₈ e₈ l₈ h. field-on 2 s₈ _ P h (λ z s₉ e₉ l₉ h.
-    by-row k s r t 12 (a-moment (record { parts = p; year = y; month = m; day = d; hour = i; minute = j; second = c; nanoseconds = n; offset = fromTwos 2 z }))
-    (p ∷ (bytes 2 y ++ (m ∷ d ∷ i ∷ j ∷ c ∷ (bytes 4 n ++ bytes 2 z)))) e
-    (moment-split p m d i j c (bytes 2 y) (bytes 4 n) (bytes 2 z) e₁ e₂ e₃ e₄ e₅ e₆ e₇ e₈ e₉ (got-same h .1)) (got-same h .0)
-    (ap (λ (l : List ℕ). 12 ∷ p ∷ (bytes 2 y ++ (m ∷ d ∷ i ∷ j ∷ c ∷ (bytes 4 n ++ l)))) (twos-signed 2 z l₉)))))))))))
+    byte-on s₅ _ P h (λ j s₆ e₆ h. byte-on s₆ _ P h (λ c s₇ e₇ h. field-on 4 s₇ _ P h (λ n s₈ e₈ l₈ h. field-on 2 s₈ _ P h (λ z s₉ e₉ l₉ h. byte-on s₉ _ P h (λ q s₁₀ e₁₀ h.
+    by-row k s r t 12 (a-moment (record { parts = p; year = y; month = m; day = d; hour = i; minute = j; second = c; nanoseconds = n; offset = fromTwos 2 z; mark = q }))
+    (p ∷ (bytes 2 y ++ (m ∷ d ∷ i ∷ j ∷ c ∷ (bytes 4 n ++ (bytes 2 z ++ (q ∷ [])))))) e
+    (moment-split p m d i j c q (bytes 2 y) (bytes 4 n) (bytes 2 z) e₁ e₂ e₃ e₄ e₅ e₆ e₇ e₈ e₉ e₁₀ (got-same h .1)) (got-same h .0)
+    (ap (λ (l : List ℕ). 12 ∷ p ∷ (bytes 2 y ++ (m ∷ d ∷ i ∷ j ∷ c ∷ (bytes 4 n ++ (l ++ (q ∷ [])))))) (twos-signed 2 z l₉))))))))))))
 
 -- a row that is read is what the small-bytes begin with
 pub decode-sound : (bs : List ℕ) (r : Row) (t : List ℕ) → decode bs ≡ got r t → bs ≡ encode r ++ t

@@ -13,13 +13,13 @@ use lib.ListN.{length}
 use lib.Pow.{pow-add}
 use Rattle.rules.specs.Bytes.{fold, between, digit, All, none, one, ascii}
 use Rattle.rules.specs.Modes.{Mode}
-use Rattle.rules.specs.Values.{Date, in-year, Second, Time, Written, onto, number, signed, within, same, named, fits, inBase, radixKept, significant, moved, held, realKept, monthLength, Day, dayOf, timeKept, noDay, noTime, at, then, value}
+use Rattle.rules.specs.Values.{Date, in-year, Zone, no-zone, utc, signed-zone, zoneKept, offsetOf, markOf, Second, Time, Written, onto, number, signed, within, same, named, fits, inBase, radixKept, significant, moved, held, realKept, monthLength, Day, dayOf, timeKept, noDay, noTime, at, then, value}
 use Rattle.rules.specs.Proper.{Each, none as none-each, one as one-each}
 use Rattle.rules.specs.Data.{Whole, Elem, name, the, end, integer, based, real, moment, Placed, range, text, symbol}
 use Rattle.rules.specs.Words.{from-to, Digits, Integer, signed-digits, Based, in-radix, Decimal, pointed, bare, DateWord, year-doy, year-month-day, Seconds, no-second, second, decimal, TimeWord, time, upper-T, lower-t, Shape, identifier-word, integer-word, based-word, real-word, date-word, time-word, date-time-word, range-word, Form}
 use Rattle.rules.specs.Elements.{setsOff, Spells, word, sign, one-star, two-stars, one-slash, quoted-text, quoted-symbol, Cut, none-more, next}
 use Rattle.rules.proofs.Words.Worth.{significant-last, IsDay, day-of-year}
-use Rattle.rules.proofs.Machine.Limits.{Within, RealHeld, Dated, Timed, Untimed, date-alone, time-alone, date-and-time, Worded, Possible, PossibleAt}
+use Rattle.rules.proofs.Machine.Limits.{Within, RealHeld, Dated, Marked, Timed, Untimed, date-alone, time-alone, date-and-time, Worded, Possible, PossibleAt}
 use Rattle.rules.proofs.Tables.Tests.{all-append, cond-case, and-left, and-right, between-out}
 use Rattle.rules.proofs.Tables.Numbers.{pow-positive}
 use Rattle.rules.proofs.Written.PrintedMoments.{significant-all}
@@ -156,6 +156,21 @@ nano-bound f a l =
     subst (λ (x : ℕ). number (significant f) * 10 ^ (9 - k) < x) (sym (pow-add 10 k (9 - k)) ∙ ap (λ (i : ℕ). 10 ^ i) e)
     (mul-lt-mul-of-pos-right c (pow-positive 10 (9 - k) (omega arith)))
 
+-- a zone within its limit
+zone-within : (z : Zone) → zoneKept z ≡ true → Within 780 (offsetOf z)
+zone-within no-zone e = record { below = omega arith; zero-plain = λ h. refl }
+zone-within utc e = record { below = omega arith; zero-plain = λ h. refl }
+zone-within (signed-zone west h n) e =
+    let a = leb-true h 12 (and-left (leb h 12) (leb n 59) e) in
+    let b = leb-true n 59 (and-right (leb h 12) (leb n 59) e) in
+    signed-within 780 west (h * 60 + n) (omega arith)
+
+-- its mark
+zone-marked : (z : Zone) → Marked (markOf z) (offsetOf z .size)
+zone-marked no-zone = inr (omega arith, refl)
+zone-marked utc = inr (omega arith, refl)
+zone-marked (signed-zone west h n) = inl refl
+
 timed : (p : ℕ) (d : Day) (t : Time) → All digit (t .second .decimals) → timeKept t ≡ true → Timed (at p d t)
 timed p d t a h =
     let f : List ℕ = t .second .decimals in
@@ -163,14 +178,13 @@ timed p d t a h =
     let h₂ = and-right (ltb (t .minute) 60) _ h₁ in
     let h₃ = and-right (ltb (t .second .whole) 60) _ h₂ in
     let h₄ = and-right (leb (length (significant f)) 9) _ h₃ in
-    let zh = leb-true (t .zone .hours) 12 (and-left (leb (t .zone .hours) 12) (leb (t .zone .minutes) 59) h₄) in
-    let zm = leb-true (t .zone .minutes) 59 (and-right (leb (t .zone .hours) 12) (leb (t .zone .minutes) 59) h₄) in
     record {
       hour-most = ltb-true (t .hour) 24 (and-left (ltb (t .hour) 24) _ h);
       minute-most = ltb-true (t .minute) 60 (and-left (ltb (t .minute) 60) _ h₁);
       second-most = ltb-true (t .second .whole) 60 (and-left (ltb (t .second .whole) 60) _ h₂);
       nanoseconds-most = nano-bound f a (leb-true (length (significant f)) 9 (and-left (leb (length (significant f)) 9) _ h₃));
-      offset-most = signed-within 780 (t .zone .west) (t .zone .hours * 60 + t .zone .minutes) (omega arith);
+      offset-most = zone-within (t .zone) h₄;
+      marked = zone-marked (t .zone);
     }
 
 -- the decimals of a second are digits
@@ -183,7 +197,7 @@ pub second-digits : {w : List ℕ} {t : Time} → TimeWord w t → All digit (t 
 second-digits (time h m s z) = decimal-digits s
 
 untimed : (d : Day) → Untimed (at 1 d noTime)
-untimed d = record { hour = refl; minute = refl; second = refl; nanoseconds = refl; offset = refl }
+untimed d = record { hour = refl; minute = refl; second = refl; nanoseconds = refl; offset = refl; mark = refl }
 
 date-worded : {w : List ℕ} {d : Date} → DateWord w d → When Worded (then (dayOf d) (λ x. some (moment (at 1 x noTime))))
 date-worded {d = d} w = when-then DayHeld Worded (dayOf d) (λ x. some (moment (at 1 x noTime))) (day-held w) (λ x h. date-alone refl (dated 1 x noTime h) (untimed x))

@@ -4,18 +4,18 @@ use mathlib.Core.Path.{_≡_, sym, _∙_}
 use mathlib.Core.Logic.{_↔_}
 use mathlib.Core.List.{List, [], _∷_, _++_, map}
 use Rattle.rules.specs.Proper.{Each, theRules, aside, Holds, Proper, Begins}
-use Rattle.rules.specs.Written.{start, canonical}
+use Rattle.rules.specs.Written.{start}
 use Rattle.rules.specs.Data.{outside, Row}
-use Rattle.rules.specs.Meaning.{meaning}
-use Rattle.rules.proofs.Written.Pieces.{writtenPieces}
+use Rattle.rules.proofs.Written.Marks.{wordings}
+use Rattle.rules.proofs.Written.Pieces.{writtenPieces, givenLabel}
 use Rattle.rules.proofs.Machine.Rows.{Await, t-statement, t-end, Kinds, RowRun, row-here, row-by, RowAccepts}
 use Rattle.rules.proofs.Machine.Limits.{Valued}
 use Rattle.rules.proofs.Tables.RowOrder.{rows-complete}
 use Rattle.rules.proofs.Tables.Tests.{each-left, each-append}
 use Rattle.rules.proofs.Tables.RowLimits.{rows-valued}
 use Rattle.rules.proofs.Written.Place.{place, skip, laid}
-use Rattle.rules.proofs.Written.Aside.{aside-meaning, aside-laid, alike-values, alike-run}
-use Rattle.rules.proofs.Written.Clean.{clean-meaning}
+use Rattle.rules.proofs.Written.Aside.{aside-wordings, aside-laid, alike-values, alike-run}
+use Rattle.rules.proofs.Written.Clean.{clean-wordings}
 use Rattle.rules.proofs.Written.Writing.{written-label}
 use Rattle.rules.proofs.Tables.ElementLimits.{cut-possible}
 use Rattle.rules.proofs.Written.Spelling.{written-cut}
@@ -39,20 +39,20 @@ proper→accepted {given} {rs} p =
 
 accepted→proper : {given : List ℕ} {rs : List Row} → Accepted given rs → Proper given rs
 accepted→proper {given} {rs} a =
-    let m = meaning given rs in
-    let e : map aside rs ≡ map aside m = sym (aside-meaning given rs) in
+    let m = wordings given rs in
+    let e : map aside rs ≡ map aside m = sym (aside-wordings given rs) in
     let v : Each Valued m = alike-values rs m e (a .values) in
     let run : RowAccepts t-statement [] m = alike-run rs m e (a .run) in
     record {
       tabled = record {
-        label = canonical m;
+        label = givenLabel m;
         elements = place 0 (writtenPieces m);
         past = skip 0 (writtenPieces m);
         rest = 13 ∷ 10 ∷ [];
         given-rows = laid 0 start outside m;
-        cut = written-cut m (clean-meaning given rs (a .spans)) v run;
+        cut = written-cut m (clean-wordings given rs (a .spans)) v run;
         follows = written-label m run v;
-        alike = aside-laid 0 start outside m ∙ aside-meaning given rs;
+        alike = aside-laid 0 start outside m ∙ aside-wordings given rs;
       };
       spans = a .spans;
     }

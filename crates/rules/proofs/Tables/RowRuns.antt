@@ -1,8 +1,9 @@
--- Runs over rows, as a relation and as a function; and that spans do not matter to them.
+-- Runs over rows, as a relation and as a function; and that only the sorts of rows matter to them.
 use Prim.Native.Nat.{ℕ}
 use mathlib.Core.Path.{_≡_, refl, ap, _∙_}
 use mathlib.Core.List.{List, [], _∷_, map}
 use native.Mathlib.Omega.{arith}
+use lib.ListN.{length}
 use Rattle.rules.specs.Data.{RowOf, attribute, pointer, opened, closed, an-integer, a-real, a-moment, a-text, a-symbol, a-unit, sequence, sequence-end, set, set-end, last}
 use Rattle.rules.specs.Proper.{aside}
 use Rattle.rules.proofs.Machine.Rows.{Sort, sort, Await, Kinds, To, to-none, to, sort-step, RowRun, row-here, row-by, carried, row-run}
@@ -14,7 +15,7 @@ pub to-same : {t t′ : Await} {o o′ : Kinds} → to t o ≡ to t′ o′ → 
 to-same e = (cc, cc)
 
 -- spans do not matter
-pub sort-aside : {S L : Type 0} (r : RowOf S L) → sort (aside r) ≡ sort r
+pub sort-aside : {S L M : Type 0} (r : RowOf S L M) → sort (aside r) ≡ sort r
 sort-aside (attribute p) = refl
 sort-aside (pointer p) = refl
 sort-aside (opened k p) = refl
@@ -31,25 +32,17 @@ sort-aside set = refl
 sort-aside set-end = refl
 sort-aside (last n) = refl
 
-module _ {S L : Type 0} where
-  pub run→function : {t t′ : Await} {o o′ : Kinds} {rs : List (RowOf S L)} → RowRun t o rs t′ o′ → row-run t o rs ≡ to t′ o′
+module _ {S L M : Type 0} where
+  pub run→function : {t t′ : Await} {o o′ : Kinds} {rs : List (RowOf S L M)} → RowRun t o rs t′ o′ → row-run t o rs ≡ to t′ o′
   run→function row-here = refl
   run→function (row-by {rs = rs} e a) = ap (λ (n : To). carried n (λ t′ o′. row-run t′ o′ rs)) e ∙ run→function a
 
-  step-more : {t t′ : Await} {o o′ : Kinds} {r : RowOf S L} {rs : List (RowOf S L)} → ((t : Await) (o : Kinds) → row-run t o rs ≡ to t′ o′ → RowRun t o rs t′ o′) →
-      (n : To) → sort-step t o (sort r) ≡ n → carried n (λ t′ o′. row-run t′ o′ rs) ≡ to t′ o′ → RowRun t o (r ∷ rs) t′ o′
-  step-more ih to-none e f = absurd (none-to f)
-  step-more ih (to t₁ o₁) e f = row-by e (ih t₁ o₁ f)
-
-  pub function→run : {t′ : Await} {o′ : Kinds} (t : Await) (o : Kinds) (rs : List (RowOf S L)) → row-run t o rs ≡ to t′ o′ → RowRun t o rs t′ o′
-  function→run t o [] e = rw (← to-same e .0, ← to-same e .1) row-here
-  function→run t o (r ∷ rs) e = step-more (λ t₁ o₁. function→run t₁ o₁ rs) (sort-step t o (sort r)) refl e
-
-  pub run-aside : (t : Await) (o : Kinds) (rs : List (RowOf S L)) → row-run t o (map aside rs) ≡ row-run t o rs
-  run-aside t o [] = refl
-  run-aside t o (r ∷ rs) = ap (λ (s : Sort). carried (sort-step t o s) (λ t′ o′. row-run t′ o′ (map aside rs))) (sort-aside r) ∙ more (sort-step t o (sort r)) (λ t′ o′. run-aside t′ o′ rs)
-    where
-      more : (n : To) → ((t′ : Await) (o′ : Kinds) → row-run t′ o′ (map aside rs) ≡ row-run t′ o′ rs) →
-          carried n (λ t′ o′. row-run t′ o′ (map aside rs)) ≡ carried n (λ t′ o′. row-run t′ o′ rs)
-      more to-none f = refl
-      more (to t′ o′) f = f t′ o′
+-- rows of the same sorts have the same runs
+pub sorted-run : {S L M S′ L′ M′ : Type 0} {t t′ : Await} {o o′ : Kinds} {rs : List (RowOf S L M)} (rs′ : List (RowOf S′ L′ M′)) → map sort rs ≡ map sort rs′ → RowRun t o rs t′ o′ → RowRun t o rs′ t′ o′
+sorted-run [] e row-here = row-here
+sorted-run (r′ ∷ rs′) e row-here = absurd (omega (arith, ap length e))
+sorted-run [] e (row-by f a) = absurd (omega (arith, ap length e))
+sorted-run (r′ ∷ rs′) e (row-by {t = t} {o = o} {r = r} {rs = rs} f a) =
+    let h : sort r′ ≡ sort r = cc in
+    let l : map sort rs ≡ map sort rs′ = cc in
+    row-by (ap (sort-step t o) h ∙ f) (sorted-run rs′ l a)

@@ -13,7 +13,7 @@ use Rattle.rules.specs.Bytes as Bytes
 use Rattle.rules.specs.Data.{Whole}
 use Rattle.rules.specs.Modes.{Mode}
 use Rattle.rules.specs.Values.{Date, in-year, in-month, Zone, Second, Time, Written, a-whole, a-based, a-decimal, a-date, a-time, a-date-time, a-range, number, signed}
-use Rattle.rules.specs.Words.{Sign, unsigned, plus, minus, Digits, Unsigned, Integer, signed-digits, Based, in-radix, Exponent, upper, lower, Scale, unscaled, scaled, pointed, bare, from-to, DateWord, year-doy, year-month-day, Seconds, no-second, second, decimal, ZoneMark, east, west, Zoned, local, utc-upper, utc-lower, by-hour, by-minute, TimeWord, time, upper-T, lower-t, Shape, identifier-word, integer-word, based-word, real-word, date-word, time-word, date-time-word, range-word}
+use Rattle.rules.specs.Words.{Sign, unsigned, plus, minus, Digits, Unsigned, Integer, signed-digits, Based, in-radix, Exponent, upper, lower, Scale, unscaled, scaled, pointed, bare, from-to, DateWord, year-doy, year-month-day, Seconds, no-second, second, decimal, ZoneSign, east, west, Zoned, local, utc-upper, utc-lower, by-hour, by-minute, TimeWord, time, upper-T, lower-t, Shape, identifier-word, integer-word, based-word, real-word, date-word, time-word, date-time-word, range-word}
 use Rattle.rules.proofs.Words.Runs.{both, run-all, all-run}
 use Rattle.rules.proofs.Machine.Patterns.{G, stop, byte, check, run, fork}
 use Rattle.rules.proofs.Words.Matching.{Takes, t-stop, t-whole, t-byte, t-check, t-run, t-yes, t-no, match-sound, match-complete, run-last}
@@ -252,12 +252,12 @@ taken-scale : (k : Whole → Written) {w : List ℕ} {v : Written} → Takes (g-
 taken-scale k (t-yes h t-stop) = via unscaled
 taken-scale k (t-no h x) = via-scaled (taken-exponent k x)
 
-after-hour : (k : Zone → Written) {b : ℕ} {w : Bool} {h r : List ℕ} {v : Written} → ZoneMark b w → Digits 1 2 h →
+after-hour : (k : Zone → Written) {b : ℕ} {w : Bool} {h r : List ℕ} {v : Written} → ZoneSign b w → Digits 1 2 h →
     Takes (fork isNil (stop (k (zoneAt w h 0))) (byte 58 (run digit (between 1 2) (λ mi. stop (k (zoneAt w h (number mi))))))) r v → Via Zoned k (b ∷ (h ++ r)) v
 after-hour k mk d (t-yes i t-stop) = rw append-nil (via (by-hour mk d))
 after-hour k mk d (t-no i (t-byte (t-run u o x))) = let e = stopped x in rw (e .0, e .1, append-nil) (via (by-minute mk d (record { all = run-all u; count = o })))
 
-taken-offset : (k : Zone → Written) {b : ℕ} {w : Bool} → ZoneMark b w → {x : List ℕ} {v : Written} → Takes (g-offset w k) x v → Via Zoned k (b ∷ x) v
+taken-offset : (k : Zone → Written) {b : ℕ} {w : Bool} → ZoneSign b w → {x : List ℕ} {v : Written} → Takes (g-offset w k) x v → Via Zoned k (b ∷ x) v
 taken-offset k mk (t-run t n x) = after-hour k mk (record { all = run-all t; count = n }) x
 
 taken-zone : (k : Zone → Written) {w : List ℕ} {v : Written} → Takes (g-zone k) w v → Via Zoned k w v

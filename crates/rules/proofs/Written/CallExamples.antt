@@ -78,4 +78,6 @@ calls-hold =
     and refl and refl and refl and refl and refl
     and (record { rows = _; past = _; reading = refl; writing = refl; short = omega arith; short-after = omega arith })
     and (record { rows = _; past = _; reading = refl; writing = refl; short = omega arith; short-after = omega arith })
+    and refl and refl and refl and refl and refl and refl and refl and refl and refl
+    and (record { rows = _; past = _; reading = refl; writing = refl; short = omega arith; short-after = omega arith })
     and (record { rows = _; past = _; reading = refl; writing = refl; short = omega arith; short-after = omega arith }) and no-more)

@@ -7,7 +7,7 @@ use mathlib.Core.List.{List, [], _∷_, _++_}
 use Rattle.rules.specs.Bytes.{ascii}
 use Rattle.rules.specs.Written.{isName, unpadded, digits, wide, realBytes, indent, canonical}
 use Rattle.rules.specs.Data.{Whole, Moment, object, group, attribute, pointer, opened, closed, an-integer, a-real, a-moment, a-text, a-symbol, a-unit, sequence, sequence-end, set, set-end, last, first, times, divided}
-use Rattle.rules.specs.Meaning.{Sense, keep, breaks, join, reassemble}
+use Rattle.rules.specs.Meaning.{Sense, unmarked, keep, breaks, join, reassemble}
 
 abbrev plus : ℕ → Whole
 plus n = record { minus = false; size = n }
@@ -25,11 +25,11 @@ _writes_ m ls = canonical (m ++ (last tt ∷ [])) ≡ lines (ls ++ ("END" ∷ []
 
 infix 60 _writes_
 abbrev clock : ℕ → ℕ → ℕ → ℕ → Whole → Moment
-clock h i s n z = record { parts = 2; year = 0; month = 0; day = 0; hour = h; minute = i; second = s; nanoseconds = n; offset = z }
+clock h i s n z = record { parts = 2; year = 0; month = 0; day = 0; hour = h; minute = i; second = s; nanoseconds = n; offset = z; mark = 0 }
 
 -- the paper's example, its real as document 02 §4 writes it
 sample : (opened object (ascii "CAM") ∷ attribute (ascii "START")
-    ∷ a-moment (record { parts = 3; year = 1990; month = 6; day = 7; hour = 15; minute = 24; second = 12; nanoseconds = 0; offset = plus 0 })
+    ∷ a-moment (unmarked {M = ℕ} (record { parts = 3; year = 1990; month = 6; day = 7; hour = 15; minute = 24; second = 12; nanoseconds = 0; offset = plus 0; mark = 0 }))
     ∷ attribute (ascii "HOLD") ∷ a-real (record { number = plus 15; power = minus 1 }) ∷ a-unit first (ascii "SEC") (plus 1) ∷ closed object ∷ [])
     writes ("OBJECT = CAM" ∷ "  START = 1990-06-07T15:24:12Z" ∷ "  HOLD = 1.5 <SEC>" ∷ "END_OBJECT = CAM" ∷ [])
 unfolding unpadded digits wide indent
@@ -87,8 +87,8 @@ unfolding unpadded digits wide indent
 reals = refl
 
 -- dates and times: a fraction without trailing zeros, Z or sign and HH:MM
-moments : (attribute (ascii "A") ∷ sequence ∷ a-moment (record { parts = 1; year = 1; month = 12; day = 31; hour = 0; minute = 0; second = 0; nanoseconds = 0; offset = plus 0 })
-    ∷ a-moment (clock 1 2 3 120000000 (minus 30)) ∷ a-moment (clock 23 59 59 1 (plus 779)) ∷ sequence-end ∷ [])
+moments : (attribute (ascii "A") ∷ sequence ∷ a-moment (unmarked {M = ℕ} (record { parts = 1; year = 1; month = 12; day = 31; hour = 0; minute = 0; second = 0; nanoseconds = 0; offset = plus 0; mark = 0 }))
+    ∷ a-moment (unmarked (clock 1 2 3 120000000 (minus 30))) ∷ a-moment (unmarked (clock 23 59 59 1 (plus 779))) ∷ sequence-end ∷ [])
     writes ("A = (0001-12-31, 01:02:03.12-00:30, 23:59:59.000000001+12:59)" ∷ [])
 unfolding unpadded digits wide indent
 moments = refl

@@ -5,8 +5,8 @@ use mathlib.Core.Bool.{Bool, true, false, cond}
 use mathlib.Core.List.{List, [], _∷_, _++_}
 use lib.ListN.{length}
 use Rattle.rules.specs.Data.{Span, Elem, name, the, end, integer, based, real, moment, range, text, symbol, Placed, _on_, Opens, Row, attribute, pointer, opened, closed, an-integer, a-real, a-moment, a-text, a-symbol, a-unit, sequence, sequence-end, set, set-end, last}
-use Rattle.rules.specs.Meaning.{Sense}
 use Rattle.rules.specs.Written.{Prior, prior, after}
+use Rattle.rules.proofs.Written.Marks.{Wording}
 use Rattle.rules.proofs.Written.Pieces.{WrittenPiece, piecesOf}
 
 -- the span of a piece that begins at `n`, and where the next piece begins
@@ -46,7 +46,7 @@ abbrev pub spanIn : ℕ → List WrittenPiece → Span
 spanIn n [] = record { from = 0; upto = 0 }
 spanIn n (p ∷ ps) = cond (hasSpan (p .elem)) (spanAt n p) (spanIn (next n p) ps)
 
-abbrev pub spanned : Span → Sense → Row
+abbrev pub spanned : Span → Wording → Row
 spanned p (attribute w) = attribute p
 spanned p (pointer w) = pointer p
 spanned p (opened k w) = opened k p
@@ -64,6 +64,6 @@ spanned p set-end = set-end
 spanned p (last n) = last (p .upto)
 
 -- the rows of the written label
-abbrev pub laid : ℕ → Prior → Opens → List Sense → List Row
+abbrev pub laid : ℕ → Prior → Opens → List Wording → List Row
 laid n q o [] = []
 laid n q o (r ∷ rs) = spanned (spanIn n (piecesOf q o r)) r ∷ laid (skip n (piecesOf q o r)) (prior r) (after o r) rs

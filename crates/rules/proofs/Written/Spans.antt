@@ -1,4 +1,4 @@
--- The spans of the written label's rows hold the bytes that were written: the table that is read back has the same meaning.
+-- The spans of a written label's rows hold the bytes that were written: the table that is read back has the same words and marks.
 use Prim.Native.Nat.{ℕ, _+_, _-_}
 use mathlib.Core.Path.{_≡_, refl, sym, ap, ap₂, _∙_, subst}
 use mathlib.Core.Bool.{Bool, true, false}
@@ -7,10 +7,11 @@ use lib.ListN.{length, length-append}
 use native.Mathlib.Omega.{arith}
 use lib.Seq.{take-at, drop-at}
 use Rattle.rules.specs.Proper.{Each, none, one, stretch}
-use Rattle.rules.specs.Written.{isName, isOne, Prior, start, heading, member, factor, prior, after, canonical}
+use Rattle.rules.specs.Written.{isName, isOne, Prior, start, heading, member, factor, prior, after}
 use Rattle.rules.specs.Data.{Op, first, times, divided, Opens, outside, attribute, pointer, opened, closed, an-integer, a-real, a-moment, a-text, a-symbol, a-unit, sequence, sequence-end, set, set-end, last}
-use Rattle.rules.specs.Meaning.{Sense, foldAll, reassemble, sense, meaning}
-use Rattle.rules.proofs.Written.Pieces.{bytes-append, written-bytes, WrittenPiece, called, symbolPiece, exponentPieces, opPiece, closing, apart, before, piecesOf, pieces, bytesOf}
+use Rattle.rules.specs.Meaning.{foldAll, reassemble}
+use Rattle.rules.proofs.Written.Marks.{Wording, wording, wordings}
+use Rattle.rules.proofs.Written.Pieces.{bytes-append, WrittenPiece, called, symbolPiece, exponentPieces, opPiece, closing, apart, before, piecesOf, pieces, bytesOf, givenLabel}
 use Rattle.rules.proofs.Written.Place.{spanAt, next, skip, hasSpan, spanIn, spanned, laid}
 use Rattle.rules.proofs.Written.Clean.{Clean}
 
@@ -98,32 +99,31 @@ module _ (whole : List ℕ) (post : List ℕ) where
   unit-word n times w ps h = here-word whole post _ (called [] w) ps (here-next whole post n (opPiece times) (called [] w ∷ ps) h)
   unit-word n divided w ps h = here-word whole post _ (called [] w) ps (here-next whole post n (opPiece divided) (called [] w ∷ ps) h)
 
-  sense-back : (n : ℕ) (q : Prior) (o : Opens) (r : Sense) → Clean r → Here whole post n (piecesOf q o r) → sense whole (spanned (spanIn n (piecesOf q o r)) r) ≡ r
-  sense-back n q o (attribute w) c h = ap attribute (ap foldAll (closed-word n q _ _ refl h) ∙ c .1)
-  sense-back n q o (pointer w) c h = ap pointer (ap foldAll (closed-second n q _ _ _ refl refl h) ∙ c .1)
-  sense-back n q o (opened k w) c h = ap (opened k) (ap foldAll (closed-third n q _ _ _ _ refl refl refl h) ∙ c .1)
-  sense-back n q o (closed k) c h = refl
-  sense-back n q o (an-integer w) c h = refl
-  sense-back n q o (a-real x) c h = refl
-  sense-back n q o (a-moment t) c h = refl
-  sense-back n q o (a-text w) c h = ap a-text (ap reassemble (apart-word n q _ refl h) ∙ c .1)
-  sense-back n q o (a-symbol w) c h = ap a-symbol (ap foldAll (symbol-word n q (before q) w (isName w) h) ∙ c .1)
-  sense-back n q o (a-unit op w v) c h = ap (λ (u : List ℕ). a-unit op u v) (ap foldAll (unit-word n op w (exponentPieces v (isOne v)) h) ∙ c .1)
-  sense-back n q o sequence c h = refl
-  sense-back n q o sequence-end c h = refl
-  sense-back n q o set c h = refl
-  sense-back n q o set-end c h = refl
-  sense-back n q o (last u) c h = refl
+  wording-back : (n : ℕ) (q : Prior) (o : Opens) (r : Wording) → Clean r → Here whole post n (piecesOf q o r) → wording whole (spanned (spanIn n (piecesOf q o r)) r) ≡ r
+  wording-back n q o (attribute w) c h = ap attribute (ap foldAll (closed-word n q _ _ refl h) ∙ c .1)
+  wording-back n q o (pointer w) c h = ap pointer (ap foldAll (closed-second n q _ _ _ refl refl h) ∙ c .1)
+  wording-back n q o (opened k w) c h = ap (opened k) (ap foldAll (closed-third n q _ _ _ _ refl refl refl h) ∙ c .1)
+  wording-back n q o (closed k) c h = refl
+  wording-back n q o (an-integer w) c h = refl
+  wording-back n q o (a-real x) c h = refl
+  wording-back n q o (a-moment t) c h = refl
+  wording-back n q o (a-text w) c h = ap a-text (ap reassemble (apart-word n q _ refl h) ∙ c .1)
+  wording-back n q o (a-symbol w) c h = ap a-symbol (ap foldAll (symbol-word n q (before q) w (isName w) h) ∙ c .1)
+  wording-back n q o (a-unit op w v) c h = ap (λ (u : List ℕ). a-unit op u v) (ap foldAll (unit-word n op w (exponentPieces v (isOne v)) h) ∙ c .1)
+  wording-back n q o sequence c h = refl
+  wording-back n q o sequence-end c h = refl
+  wording-back n q o set c h = refl
+  wording-back n q o set-end c h = refl
+  wording-back n q o (last u) c h = refl
 
-pub laid-meaning : (whole post : List ℕ) (n : ℕ) (q : Prior) (o : Opens) (rs : List Sense) → Each Clean rs → Here whole post n (pieces q o rs) → meaning whole (laid n q o rs) ≡ rs
-laid-meaning whole post n q o [] none h = refl
-laid-meaning whole post n q o (r ∷ rs) (one c cs) h =
+pub laid-wordings : (whole post : List ℕ) (n : ℕ) (q : Prior) (o : Opens) (rs : List Wording) → Each Clean rs → Here whole post n (pieces q o rs) → wordings whole (laid n q o rs) ≡ rs
+laid-wordings whole post n q o [] none h = refl
+laid-wordings whole post n q o (r ∷ rs) (one c cs) h =
     let ps = pieces (prior r) (after o r) rs in
-    ap₂ (λ (x : Sense) (y : List Sense). x ∷ y)
-    (sense-back whole (bytesOf ps ++ post) n q o r c (subst (At whole n) (ap (λ (l : List ℕ). l ++ post) (bytes-append (piecesOf q o r) ps) ∙ append-assoc (bytesOf (piecesOf q o r)) (bytesOf ps) post) h))
-    (laid-meaning whole post (skip n (piecesOf q o r)) (prior r) (after o r) rs cs (here-skip whole post n (piecesOf q o r) ps h))
+    ap₂ (λ (x : Wording) (y : List Wording). x ∷ y)
+    (wording-back whole (bytesOf ps ++ post) n q o r c (subst (At whole n) (ap (λ (l : List ℕ). l ++ post) (bytes-append (piecesOf q o r) ps) ∙ append-assoc (bytesOf (piecesOf q o r)) (bytesOf ps) post) h))
+    (laid-wordings whole post (skip n (piecesOf q o r)) (prior r) (after o r) rs cs (here-skip whole post n (piecesOf q o r) ps h))
 
--- the table of the written label has the meaning that was written
-pub written-meaning : (m : List Sense) → Each Clean m → meaning (canonical m) (laid 0 start outside m) ≡ m
-written-meaning m c =
-    laid-meaning (canonical m) (13 ∷ 10 ∷ []) 0 start outside m c (subst (At (canonical m) 0) (sym (written-bytes m)) (at-start (canonical m)))
+-- the table of the label of these rows has the bytes that were written
+pub written-wordings : (m : List Wording) → Each Clean m → wordings (givenLabel m) (laid 0 start outside m) ≡ m
+written-wordings m c = laid-wordings (givenLabel m) (13 ∷ 10 ∷ []) 0 start outside m c (at-start (givenLabel m))

@@ -16,8 +16,9 @@ use Rattle.rules.specs.Bytes.{between, wordByte, front, All, ascii}
 use Rattle.rules.specs.Data.{Whole, Fixed, equals, comma, caret, less, greater, lpar, rpar, lbrace, rbrace, power, Elem, name, the, end, integer, real, moment, text, symbol, _on_, Kind, object, group, opener, closer, Op, first, times, divided, Opens, outside, inside, depth, attribute, pointer, opened, closed, an-integer, a-real, a-moment, a-text, a-symbol, a-unit, sequence, sequence-end, set, set-end, last}
 use Rattle.rules.specs.Words.{Form}
 use Rattle.rules.specs.Elements.{signOf, Gap, no-gap, blank, inWord, setsOff, Spells, word, sign as sign-spelled, one-star, two-stars, one-slash, quoted-text, quoted-symbol, Cut, none-more, next as cut-next}
-use Rattle.rules.specs.Meaning.{Sense}
-use Rattle.rules.proofs.Written.Pieces.{bytes-append, written-bytes, WrittenPiece, sign, plain, called, space, is, symbolPiece, exponentPieces, opPiece, closing, apart, before, repeatPieces, piecesOf, pieces, bytesOf, writtenPieces}
+use Rattle.rules.proofs.Written.Marks.{Wording}
+use Rattle.rules.proofs.Written.GivenMoments.{givenBytes}
+use Rattle.rules.proofs.Written.Pieces.{bytes-append, WrittenPiece, sign, plain, called, space, is, symbolPiece, exponentPieces, opPiece, closing, apart, before, repeatPieces, piecesOf, pieces, bytesOf, writtenPieces, givenLabel}
 use Rattle.rules.proofs.Tables.Tests.{and-left, and-right}
 use Rattle.rules.proofs.Written.Place.{spanAt, next, place, skip}
 use Rattle.rules.proofs.Machine.Statements.{in-sequence, in-row, in-set, alone, within}
@@ -31,8 +32,8 @@ use Rattle.rules.proofs.Machine.Checks.{textByte, symbolByte, isText, i
 use Rattle.rules.proofs.Tables.Contents.{passes-all, name-bytes, Begun, begun, name-begun}
 use Rattle.rules.proofs.Written.PrintedNumbers.{integer-form}
 use Rattle.rules.proofs.Written.PrintedReals.{real-form}
-use Rattle.rules.proofs.Written.PrintedMoments.{moment-form}
-use Rattle.rules.proofs.Written.WordBytes.{decimal-wordy, real-wordy, moment-wordy}
+use Rattle.rules.proofs.Written.PrintedMoments.{given-form}
+use Rattle.rules.proofs.Written.WordBytes.{decimal-wordy, real-wordy, given-wordy}
 
 -- ---- one piece
 
@@ -157,7 +158,7 @@ op-first first ps r = refl
 op-first times ps r = refl
 op-first divided ps r = refl
 
-row-first : (q : Prior) → Ends q → (o : Opens) (x : Sense) (r : List ℕ) → inWord (bytesOf (piecesOf q o x) ++ r) ≡ false
+row-first : (q : Prior) → Ends q → (o : Opens) (x : Wording) (r : List ℕ) → inWord (bytesOf (piecesOf q o x) ++ r) ≡ false
 row-first q h o (attribute w) r = line-first q h _ _ _ _ _ r
 row-first q h o (pointer w) r = line-first q h _ _ _ _ _ r
 row-first q h o (opened k w) r = line-first q h _ _ _ _ _ r
@@ -180,7 +181,7 @@ tailBytes = 13 ∷ 10 ∷ []
 split-bytes : (ps qs : List WrittenPiece) (r : List ℕ) → bytesOf (ps ++ qs) ++ r ≡ bytesOf ps ++ (bytesOf qs ++ r)
 split-bytes ps qs r = ap (λ (l : List ℕ). l ++ r) (bytes-append ps qs) ∙ append-assoc (bytesOf ps) (bytesOf qs) r
 
-rows-first : (q : Prior) → Ends q → (o : Opens) (rs : List Sense) → inWord (bytesOf (pieces q o rs) ++ tailBytes) ≡ false
+rows-first : (q : Prior) → Ends q → (o : Opens) (rs : List Wording) → inWord (bytesOf (pieces q o rs) ++ tailBytes) ≡ false
 rows-first q h o [] = refl
 rows-first q h o (r ∷ rs) = ap inWord (split-bytes (piecesOf q o r) (pieces (prior r) (after o r) rs) tailBytes) ∙ row-first q h o r (bytesOf (pieces (prior r) (after o r) rs) ++ tailBytes)
 
@@ -241,7 +242,7 @@ power-spelled v false r h k =
     (p, (word-spelled [] (λ l. no-gap) (decimal v) r (integer v) (d .letters) (d .some) k (integer-form _ v (record { below = omega (arith, h .below); zero-plain = h .zero-plain })), tt))
 
 -- END is set off
-abbrev SetOff : Sense → List ℕ → Type 0
+abbrev SetOff : Wording → List ℕ → Type 0
 SetOff (attribute w) r = Unit {0}
 SetOff (pointer w) r = Unit {0}
 SetOff (opened k w) r = Unit {0}
@@ -258,7 +259,7 @@ SetOff set r = Unit {0}
 SetOff set-end r = Unit {0}
 SetOff (last n) r = setsOff theRules r ≡ true
 
-row-spelled : (q : Prior) (o : Opens) (x : Sense) (r : List ℕ) → Clean x → Valued x → Uppers o → (Ends (prior x) → inWord r ≡ false) → SetOff x r → AllSpelled (piecesOf q o x) r
+row-spelled : (q : Prior) (o : Opens) (x : Wording) (r : List ℕ) → Clean x → Valued x → Uppers o → (Ends (prior x) → inWord r ≡ false) → SetOff x r → AllSpelled (piecesOf q o x) r
 row-spelled q o (attribute w) r c v u h z =
     closing-spelled q _ r (name-spelled (newLine q (depth o)) (gap-line q (depth o)) w _ c refl, (is-spelled _, tt))
 row-spelled q o (pointer w) r c v u h z =
@@ -280,8 +281,8 @@ row-spelled q o (a-real x) r c v u h z =
     let d = real-wordy x v in
     apart-spelled q _ r (word-spelled (before q) (gap-before q) (realBytes x) r (real x) (d .letters) (d .some) (h tt) (real-form _ x v), tt)
 row-spelled q o (a-moment t) r c v u h z =
-    let d = moment-wordy t in
-    apart-spelled q _ r (word-spelled (before q) (gap-before q) (momentBytes t) r (moment t) (d .letters) (d .some) (h tt) (moment-form _ t v), tt)
+    let d = given-wordy t in
+    apart-spelled q _ r (word-spelled (before q) (gap-before q) (givenBytes t) r (moment t) (d .letters) (d .some) (h tt) (given-form _ t v), tt)
 row-spelled q o (a-text w) r c v u h z = apart-spelled q _ r (text-spelled (before q) (gap-before q) w r (c .0), tt)
 row-spelled q o (a-symbol w) r c v u h z = apart-spelled q _ r (symbol-spelled (before q) (gap-before q) w r c (h tt) (isName w) refl, tt)
 row-spelled q o (a-unit op w e) r c v u h z =
@@ -318,18 +319,18 @@ last-step (t-member in-sequence) o = inl refl
 last-step (t-member in-row) o = inl refl
 last-step (t-member in-set) o = inl refl
 
-ended-here : {o : Kinds} {rs : List Sense} (t : Await) → t ≡ t-end → RowRun t o rs t-end [] → rs ≡ []
+ended-here : {o : Kinds} {rs : List Wording} (t : Await) → t ≡ t-end → RowRun t o rs t-end [] → rs ≡ []
 ended-here t e row-here = refl
 ended-here {o} t e (row-by {r = r} f a) = absurd (none-to (ap (λ (s : Await). sort-step s o (sort r)) (sym e) ∙ f))
 
-last-alone : (t : Await) (o : Kinds) {t′ : Await} {o′ : Kinds} {rs : List Sense} → sort-step t o s-last ≡ to t′ o′ → RowRun t′ o′ rs t-end [] → rs ≡ []
+last-alone : (t : Await) (o : Kinds) {t′ : Await} {o′ : Kinds} {rs : List Wording} → sort-step t o s-last ≡ to t′ o′ → RowRun t′ o′ rs t-end [] → rs ≡ []
 last-alone t o {t′} {o′} {rs} e a = go (last-step t o)
   where
     go : (sort-step t o s-last ≡ to-none) ⊎ (sort-step t o s-last ≡ to t-end []) → rs ≡ []
     go (inl f) = absurd (none-to (sym f ∙ e))
     go (inr f) = ended-here t′ (to-same (sym e ∙ f) .0) a
 
-set-off : (t : Await) (k : Kinds) (o : Opens) (x : Sense) (rs : List Sense) {t′ : Await} {k′ : Kinds} → sort-step t k (sort x) ≡ to t′ k′ → RowRun t′ k′ rs t-end [] →
+set-off : (t : Await) (k : Kinds) (o : Opens) (x : Wording) (rs : List Wording) {t′ : Await} {k′ : Kinds} → sort-step t k (sort x) ≡ to t′ k′ → RowRun t′ k′ rs t-end [] →
     SetOff x (bytesOf (pieces (prior x) (after o x) rs) ++ tailBytes)
 set-off t k o (attribute w) rs e a = tt
 set-off t k o (pointer w) rs e a = tt
@@ -346,9 +347,9 @@ set-off t k o sequence-end rs e a = tt
 set-off t k o set rs e a = tt
 set-off t k o set-end rs e a = tt
 set-off t k o (last n) rs e a =
-    subst (λ (l : List Sense). setsOff theRules (bytesOf (pieces heading o l) ++ tailBytes) ≡ true) (sym (last-alone t k e a)) refl
+    subst (λ (l : List Wording). setsOff theRules (bytesOf (pieces heading o l) ++ tailBytes) ≡ true) (sym (last-alone t k e a)) refl
 
-rows-spelled : {t : Await} {k : Kinds} (q : Prior) (o : Opens) (rs : List Sense) → Each Clean rs → Each Valued rs → Uppers o → RowRun t k rs t-end [] → AllSpelled (pieces q o rs) tailBytes
+rows-spelled : {t : Await} {k : Kinds} (q : Prior) (o : Opens) (rs : List Wording) → Each Clean rs → Each Valued rs → Uppers o → RowRun t k rs t-end [] → AllSpelled (pieces q o rs) tailBytes
 rows-spelled q o rs cs vs u row-here = tt
 rows-spelled q o rs (Each.one {a = r} {s = rs′} c cs) (Each.one v vs) u (row-by {t = t} {o = k} e a) =
     let l = bytesOf (pieces (prior r) (after o r) rs′) ++ tailBytes in
@@ -356,9 +357,7 @@ rows-spelled q o rs (Each.one {a = r} {s = rs′} c cs) (Each.one v vs) u (row-b
     (row-spelled q o r l c v u (λ d. rows-first (prior r) d (after o r) rs′) (set-off t k o r rs′ e a))
     (rows-spelled (prior r) (after o r) rs′ cs vs (uppers-after o r u c) a)
 
--- the written label of accepted rows is cut into exactly its elements
-pub written-cut : (m : List Sense) → Each Clean m → Each Valued m → RowRun t-statement [] m t-end [] →
-    Cut theRules 0 (canonical m) (place 0 (writtenPieces m)) (skip 0 (writtenPieces m)) tailBytes
-written-cut m c v a =
-    subst (λ (l : List ℕ). Cut theRules 0 l (place 0 (writtenPieces m)) (skip 0 (writtenPieces m)) tailBytes) (written-bytes m)
-    (cut-pieces 0 (writtenPieces m) tailBytes (rows-spelled start outside m c v tt a))
+-- the label of accepted rows is cut into exactly its elements
+pub written-cut : (m : List Wording) → Each Clean m → Each Valued m → RowRun t-statement [] m t-end [] →
+    Cut theRules 0 (givenLabel m) (place 0 (writtenPieces m)) (skip 0 (writtenPieces m)) tailBytes
+written-cut m c v a = cut-pieces 0 (writtenPieces m) tailBytes (rows-spelled start outside m c v tt a)

@@ -8,13 +8,14 @@ use borrow.Author.Tests.{le-leb}
 use lib.Dec.{leb, eqb}
 use lib.ListN.{length}
 use Rattle.rules.specs.Values.{significant}
-use Rattle.rules.specs.Written.{digits, wide, minusOnly, decimal, plainBytes, fullBytes, scaledBytes, realBytes, dateBytes, fraction, zone, timeBytes, momentBytes}
+use Rattle.rules.specs.Written.{digits, wide, minusOnly, decimal, plainBytes, fullBytes, scaledBytes, realBytes, dateBytes, fraction, timeBytes}
 use Rattle.rules.specs.Bytes.{digit, letter, wordByte, All, none, one}
 use Rattle.rules.specs.Data.{Whole, Real, Moment}
 use Rattle.rules.proofs.Tables.Tests.{all-append, or-second, cond-case}
 use Rattle.rules.proofs.Machine.Limits.{RealHeld}
 use Rattle.rules.proofs.Tables.Contents.{alnum-word}
 use Rattle.rules.proofs.Written.PrintedNumbers.{fewer, printed, some-digits, wide-all, wide-length}
+use Rattle.rules.proofs.Written.GivenMoments.{givenZone, givenBytes}
 use Rattle.rules.proofs.Written.PrintedMoments.{significant-all}
 
 digit-word : (b : ℕ) → digit b ≡ true → wordByte b ≡ true
@@ -69,22 +70,23 @@ fraction-word : (f : List ℕ) → All wordByte f → All wordByte (fraction f)
 fraction-word [] none = none
 fraction-word (b ∷ f) h = one refl h
 
-mark-word : (b : Bool) → wordByte (cond b 45 43) ≡ true
-mark-word true = refl
-mark-word false = refl
+sign-word : (b : Bool) → wordByte (cond b 45 43) ≡ true
+sign-word true = refl
+sign-word false = refl
 
-zone-word : (w : Whole) → All wordByte (zone w)
-zone-word w =
-    cond-case (All wordByte) (eqb (w .size) 0) _ _ (λ e. one refl none)
-    (λ e. one (mark-word (w .minus)) (all-append (wide-word 2 (w .size / 60)) (one refl (wide-word 2 (w .size % 60)))))
+zone-word : (k : ℕ) (w : Whole) → All wordByte (givenZone k w)
+zone-word k w =
+    cond-case (All wordByte) (eqb k 0) _ _ (λ e. none)
+    (λ e. cond-case (All wordByte) (eqb k 1) _ _ (λ f. one refl none)
+    (λ f. one (sign-word (w .minus)) (all-append (wide-word 2 (w .size / 60)) (one refl (wide-word 2 (w .size % 60))))))
 
-time-wordy : (t : Moment) → Wordy (timeBytes t)
+time-wordy : (t : Moment) → Wordy (timeBytes (givenZone (t .mark) (t .offset)) t)
 time-wordy t =
     wordy-more (wide 2 (t .hour)) _ (wide-wordy 1 (t .hour))
     (one refl (all-append (wide-word 2 (t .minute)) (one refl (all-append (wide-word 2 (t .second))
-    (all-append (fraction-word (significant (wide 9 (t .nanoseconds))) (all-word (significant-all (wide 9 (t .nanoseconds)) (wide-all 9 (t .nanoseconds))))) (zone-word (t .offset)))))))
+    (all-append (fraction-word (significant (wide 9 (t .nanoseconds))) (all-word (significant-all (wide 9 (t .nanoseconds)) (wide-all 9 (t .nanoseconds))))) (zone-word (t .mark) (t .offset)))))))
 
-pub moment-wordy : (t : Moment) → Wordy (momentBytes t)
-moment-wordy t =
+pub given-wordy : (t : Moment) → Wordy (givenBytes t)
+given-wordy t =
     cond-case Wordy (eqb (t .parts) 1) _ _ (λ e. date-wordy t)
     (λ e. cond-case Wordy (eqb (t .parts) 2) _ _ (λ f. time-wordy t) (λ f. wordy-more (dateBytes t) _ (date-wordy t) (one refl (time-wordy t .letters))))

@@ -12,8 +12,8 @@ use Rattle.rules.specs.Proper.{theRules, Each, one as also-one}
 use Rattle.rules.specs.Written.{isName, isOne, openWord, closeWord, Prior, heading, member, factor, prior, newLine, after as opens-after, start}
 use Rattle.rules.specs.Data.{Span, Whole, one, Real, Moment, Name, Fixed, equals, star, slash, caret, less, greater, name, the, end, Placed, _on_, Kind, Kind-discrete, object, group, opener, closer, Op, first, times, divided, Opens, outside, inside, depth, Row, attribute, pointer, opened, closed, an-integer, a-real, a-moment, a-text, a-symbol, a-unit, sequence, sequence-end, set, set-end, last}
 use Rattle.rules.specs.Grammar.{strict, unwritten, Label}
-use Rattle.rules.specs.Meaning.{Sense}
 use Rattle.rules.specs.Bytes.{ascii}
+use Rattle.rules.proofs.Written.Marks.{Wording}
 use Rattle.rules.proofs.Written.Pieces.{WrittenPiece, sign, plain, called, space, is, symbolPiece, exponentPieces, closing, apart, piecesOf, pieces, writtenPieces}
 use Rattle.rules.proofs.Machine.Statements.{Group, in-sequence, in-row, in-set, Place, alone, within, Else, no-else, any-value, a-row, a-set-end, State, at-statement, at-semicolon, at-equals, at-pointer, at-opener, at-opened, at-closer, at-closed, at-scalar, at-number, at-member, at-row, at-next-row, at-unit, at-power, at-exponent, at-factor, at-end, goes, judge, step, after, name-discrete, chosen}
 use Rattle.rules.proofs.Grammar.Rest.{Rest, r-factor, r-power, r-end}
@@ -66,7 +66,7 @@ agrees-after (within g) = g-member
 
 -- ---- one row: if the rest may follow after it, then the row's pieces and the rest may follow before it
 
-abbrev Core : State → Opens → List WrittenPiece → Sense → Await → Type 0
+abbrev Core : State → Opens → List WrittenPiece → Wording → Await → Type 0
 Core st o X r t =
     (n : ℕ) (ys : List Placed) (qs : List Row) → Rest theRules strict (state t) (opens-after o r) ys qs →
     Rest theRules strict st o (place n X ++ ys) (spanned (spanIn n X) r ∷ qs)
@@ -130,7 +130,7 @@ core-unit st c op o k g u w v e h n ys qs s =
 
 -- ---- rows of a sort
 
-pub data OfSort : Sort → Sense → Type 0 where
+pub data OfSort : Sort → Wording → Type 0 where
   is-attribute : {p : List ℕ} → OfSort s-attribute (attribute p)
   is-pointer : {p : List ℕ} → OfSort s-pointer (pointer p)
   is-opened : {k : Kind} {p : List ℕ} → OfSort (s-opened k) (opened k p)
@@ -154,7 +154,7 @@ unit-shape first p w = is-first
 unit-shape times p w = is-times
 unit-shape divided p w = is-divided
 
-pub of-sort : (r : Sense) → OfSort (sort r) r
+pub of-sort : (r : Wording) → OfSort (sort r) r
 of-sort (attribute p) = is-attribute
 of-sort (pointer p) = is-pointer
 of-sort (opened k p) = is-opened
@@ -171,18 +171,18 @@ of-sort set = is-set
 of-sort set-end = is-set-end
 of-sort (last n) = is-last
 
-abbrev FitTo : State → Prior → Opens → Sense → To → Type 0
+abbrev FitTo : State → Prior → Opens → Wording → To → Type 0
 FitTo st q o r to-none = Unit {0}
 FitTo st q o r (to t ks) = (kinds (opens-after o r) ≡ ks) × Agrees t (prior r) × Core st o (piecesOf q o r) r t
 
 abbrev Fit : State → Prior → Opens → Sort → To → Type 0
-Fit st q o k n = (r : Sense) → OfSort k r → Valued r → FitTo st q o r n
+Fit st q o k n = (r : Wording) → OfSort k r → Valued r → FitTo st q o r n
 
 abbrev AllFit : State → Prior → Opens → List RowLine → Type 0
 AllFit st q o [] = Unit {0}
 AllFit st q o (k ↝ n ∷ l) = Fit st q o k n × AllFit st q o l
 
-look-fit : (st : State) (q : Prior) (o : Opens) (r : Sense) → Valued r → (l : List RowLine) → AllFit st q o l → FitTo st q o r (look l (sort r))
+look-fit : (st : State) (q : Prior) (o : Opens) (r : Wording) → Valued r → (l : List RowLine) → AllFit st q o l → FitTo st q o r (look l (sort r))
 look-fit st q o r v [] h = tt
 look-fit st q o r v (k ↝ n ∷ l) h =
     chosen-case (Sort-discrete Kind-discrete k (sort r)) n (look l (sort r)) (FitTo st q o r)
@@ -191,7 +191,7 @@ look-fit st q o r v (k ↝ n ∷ l) h =
 -- ---- statements
 
 module _ (st : State) (q : Prior) (o : Opens) (wide : (ys : List Placed) (qs : List Row) → Rest theRules strict at-statement o ys qs → Rest theRules strict st o ys qs) (h : closing q ≡ []) where
-  led : (X : List WrittenPiece) (r : Sense) (t : Await) → Core at-statement o X r t → Core st o (closing q ++ X) r t
+  led : (X : List WrittenPiece) (r : Wording) (t : Await) → Core at-statement o X r t → Core st o (closing q ++ X) r t
   led X r t c = subst (λ (l : List WrittenPiece). Core st o (l ++ X) r t) (sym h) (λ n ys qs s. wide _ _ (c n ys qs s))
 
   fit-attribute : Fit st q o s-attribute (to t-value (kinds o))
@@ -222,7 +222,7 @@ fit-statement st q (inside k n o) w h =
 
 -- ---- scalars, after what stands before them
 
-module _ (st : State) (q : Prior) (o : Opens) (c : Place) (a : Else) (lead : (X : List WrittenPiece) (r : Sense) (t : Await) → Core (at-scalar c a) o X r t → Core st o (apart q ++ X) r t) where
+module _ (st : State) (q : Prior) (o : Opens) (c : Place) (a : Else) (lead : (X : List WrittenPiece) (r : Wording) (t : Await) → Core (at-scalar c a) o X r t → Core st o (apart q ++ X) r t) where
   fit-number : Fit st q o s-number (to (t-number c) (kinds o))
   fit-number r (is-integer {w}) v = (refl, g-number, lead _ (an-integer w) (t-number c) (λ n ys qs s. via (at-scalar c a) o _ refl s))
   fit-number r (is-real {x}) v = (refl, g-number, lead _ (a-real x) (t-number c) (λ n ys qs s. via (at-scalar c a) o _ refl s))
@@ -268,7 +268,7 @@ fit-end in-set o = (fit-set-end o, tt)
 
 -- ---- after a scalar
 
-comma-lead : (g : Group) (o : Opens) (X : List WrittenPiece) (r : Sense) (t : Await) → Core (at-scalar (within g) no-else) o X r t → Core (at-member g) o (apart member ++ X) r t
+comma-lead : (g : Group) (o : Opens) (X : List WrittenPiece) (r : Wording) (t : Await) → Core (at-scalar (within g) no-else) o X r t → Core (at-member g) o (apart member ++ X) r t
 comma-lead g o X r t c n ys qs s = via (at-member g) o _ refl (c _ ys qs s)
 
 fit-member : (g : Group) (o : Opens) → AllFit (at-member g) member o (after-lines (within g) (kinds o))
@@ -279,7 +279,7 @@ fit-after : (c : Place) (o : Opens) → AllFit (after c) member o (after-lines c
 fit-after alone o = fit-statement at-semicolon member o (λ ys qs. semicolon-missing theRules strict) refl
 fit-after (within g) o = fit-member g o
 
-wider-to : (st st′ : State) (q : Prior) (o : Opens) (r : Sense) (n : To) → ((ys : List Placed) (qs : List Row) → Rest theRules strict st o ys qs → Rest theRules strict st′ o ys qs) →
+wider-to : (st st′ : State) (q : Prior) (o : Opens) (r : Wording) (n : To) → ((ys : List Placed) (qs : List Row) → Rest theRules strict st o ys qs → Rest theRules strict st′ o ys qs) →
     FitTo st q o r n → FitTo st′ q o r n
 wider-to st st′ q o r to-none w h = tt
 wider-to st st′ q o r (to t ks) w h = (h .0, h .1, λ n ys qs s. w _ _ (h .2 n ys qs s))
@@ -320,7 +320,7 @@ after-end (within in-set) o = (tt, (tt, (tt, tt)))
 abbrev close : WrittenPiece
 close = sign [] (62 ∷ []) greater
 
-factor-writes : (k : Sort) (r : Sense) → OfSort k r → Ends k → (o : Opens) → piecesOf factor o r ≡ close ∷ piecesOf member o r
+factor-writes : (k : Sort) (r : Wording) → OfSort k r → Ends k → (o : Opens) → piecesOf factor o r ≡ close ∷ piecesOf member o r
 factor-writes k r is-attribute e o = refl
 factor-writes k r is-pointer e o = refl
 factor-writes k r is-opened e o = refl
@@ -339,7 +339,7 @@ factor-writes k r is-set e o = absurd e
 factor-writes k r is-set-end e o = refl
 factor-writes k r is-last e o = refl
 
-factor-to : (c : Place) (o : Opens) (r : Sense) (n : To) → piecesOf factor o r ≡ close ∷ piecesOf member o r → FitTo (after c) member o r n → FitTo (at-factor c) factor o r n
+factor-to : (c : Place) (o : Opens) (r : Wording) (n : To) → piecesOf factor o r ≡ close ∷ piecesOf member o r → FitTo (after c) member o r n → FitTo (at-factor c) factor o r n
 factor-to c o r to-none e h = tt
 factor-to c o r (to t ks) e h =
     (h .0, h .1, subst (λ (X : List WrittenPiece). Core (at-factor c) o X r t) (sym e) (λ n ys qs s. via (at-factor c) o _ refl (h .2 _ ys qs s)))
@@ -357,7 +357,7 @@ fit-more c o r (is-divided {p} {w}) v = (refl, g-units, core-unit (at-factor c) 
 
 -- ---- all states
 
-plain-lead : (st : State) (o : Opens) (X : List WrittenPiece) (r : Sense) (t : Await) → Core st o X r t → Core st o X r t
+plain-lead : (st : State) (o : Opens) (X : List WrittenPiece) (r : Wording) (t : Await) → Core st o X r t → Core st o X r t
 plain-lead st o X r t c = c
 
 fit-lines : (t : Await) (q : Prior) (o : Opens) → Agrees t q → AllFit (state t) q o (lines t (kinds o))
@@ -383,7 +383,7 @@ fit-lines t q o g-end = tt
 
 -- ---- all rows
 
-pub pieces-follow : {t : Await} {q : Prior} {ks : Kinds} (o : Opens) (rs : List Sense) → Agrees t q → Each Valued rs → RowRun t ks rs t-end [] → kinds o ≡ ks → (n : ℕ) →
+pub pieces-follow : {t : Await} {q : Prior} {ks : Kinds} (o : Opens) (rs : List Wording) → Agrees t q → Each Valued rs → RowRun t ks rs t-end [] → kinds o ≡ ks → (n : ℕ) →
     Rest theRules strict (state t) o (place n (pieces q o rs)) (laid n q o rs)
 pieces-follow o rs g v row-here e n = r-end
 pieces-follow {t} {q} {ks} o rs g (also-one {a = r} {s = rs′} v vs) (row-by {t′ = t′} {o′ = ks′} f a) e n =
@@ -394,5 +394,5 @@ pieces-follow {t} {q} {ks} o rs g (also-one {a = r} {s = rs′} v vs) (row-by {t
     fit = subst (FitTo (state t) q o r) (ap (λ (i : Kinds). sort-step t i (sort r)) e ∙ f) (look-fit (state t) q o r v (lines t (kinds o)) (fit-lines t q o g))
 
 -- the pieces of accepted rows are a label, and give the rows that were written
-pub written-label : (m : List Sense) → RowAccepts t-statement [] m → Each Valued m → Label theRules strict (place 0 (writtenPieces m)) (laid 0 start outside m)
+pub written-label : (m : List Wording) → RowAccepts t-statement [] m → Each Valued m → Label theRules strict (place 0 (writtenPieces m)) (laid 0 start outside m)
 written-label m a v = whole theRules strict (pieces-follow outside m (g-statement refl) v a refl 0)

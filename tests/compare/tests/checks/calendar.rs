@@ -100,7 +100,7 @@ fn days(years: RangeInclusive<u16>) -> Vec<Day> {
 
 fn date_row(year: u16, month: u8, day: u8) -> MomentRow {
     let [high, low] = year.to_be_bytes();
-    [12, 1, high, low, month, day, 0, 0, 0, 0, 0, 0, 0, 0, 0]
+    [12, 1, high, low, month, day, 0, 0, 0, 0, 0, 0, 0, 0, 0, 0]
 }
 
 /// What is made of each of these days.
@@ -160,7 +160,7 @@ fn row_with_time(day: Day) -> MomentRow {
     let mut row = day.row();
     row[1] = 3;
     row[6..9].copy_from_slice(&[23, 59, 58]);
-    row[13..].copy_from_slice(&[255, 255]);
+    row[13..].copy_from_slice(&[255, 255, 2]);
     row
 }
 

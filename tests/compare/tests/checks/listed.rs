@@ -1,7 +1,7 @@
 //! The list of examples: its answers and rows, and everything near them.
 
 use compare::{Call, Case};
-use odl::{Date, Join, Label, Moment, Row, Time};
+use odl::{Date, Join, Label, Moment, Row, Time, Zone};
 
 const LIST: &str = include_str!("../../../../examples/vectors.txt");
 
@@ -118,9 +118,14 @@ fn described_date(date: Date) -> String {
 }
 
 fn described_time(time: Time) -> String {
+    let zone = match time.zone {
+        Zone::NotGiven => "0 no zone".to_string(),
+        Zone::Utc => "0 Z".to_string(),
+        Zone::Signed(minutes) => format!("{minutes} signed zone"),
+    };
     format!(
-        "{:02}:{:02}:{:02}.{:09} offset {}",
-        time.hour, time.minute, time.second, time.nanoseconds, time.offset
+        "{:02}:{:02}:{:02}.{:09} offset {zone}",
+        time.hour, time.minute, time.second, time.nanoseconds
     )
 }
 

@@ -10,3 +10,4 @@ mod meaning;
 mod odd;
 mod random;
 mod support;
+mod zones;

@@ -21,6 +21,7 @@ fn labels_of(length: usize) -> Vec<Vec<u8>> {
         filled("A=((", "1),(", "1))END"),
         filled("A={", "-.5e-3 <KM/S**-2>,", ""),
         filled("A=(", "1E18,", "1.)END"),
+        filled("A=(", "0:0,", "0:0)END"),
         filled("A=(", "0.000000000000000001,", "1.)END"),
         filled("A=\"", "x-\n ", "\" END"),
         filled("A=\"", "x", ""),

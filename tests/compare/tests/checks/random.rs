@@ -5,13 +5,14 @@ use compare::chance::{self, Tally, Until, NO_KINDS, ROWS_WRITTEN};
 use compare::Call;
 use odl::Row;
 use odl_model::random::Random;
-use odl_model::{dates, reals, rows};
+use odl_model::{dates, reals, rows, zones};
 use std::io::Write;
 
 const CASES: u64 = 157_000;
 
 /// Every case of the rule for rows, of written reals, of the calendar and
-/// decimals, and of kinds that no row has must come up more often than this.
+/// decimals, of zones and their marks, and of kinds that no row has must come up
+/// more often than this.
 const LEAST: u64 = 20;
 
 #[test]
@@ -28,6 +29,7 @@ fn random_cases_agree_and_reach_every_code_and_case() {
     }
     check_reals(&tally);
     check_dates(&tally);
+    check_zones(&tally);
     let no_kinds = NO_KINDS.iter().zip(tally.no_kinds);
     let rare: Vec<_> = no_kinds.filter(|&(_, count)| count <= LEAST).collect();
     assert!(rare.is_empty(), "{rare:?}");
@@ -55,6 +57,20 @@ fn check_dates(tally: &Tally) {
         .map(|case| (Call::Write, case));
     for case in of_labels.chain(of_tables) {
         let count = tally.dates.get(&case).copied().unwrap_or(0);
+        assert!(count > LEAST, "{case:?}: {count}");
+    }
+}
+
+/// Labels were read with every zone, tables were written and refused with every
+/// mark, and labels of every mark were read and then written.
+fn check_zones(tally: &Tally) {
+    let of_labels = zones::of_labels().into_iter();
+    let of_tables = zones::of_tables().into_iter();
+    let proper = of_tables.clone().filter(|case| !case.is_refused());
+    let cases = of_labels.map(|case| (Call::Read, case));
+    let cases = cases.chain(of_tables.map(|case| (Call::Write, case)));
+    for case in cases.chain(proper.map(|case| (Call::Rewrite, case))) {
+        let count = tally.zones.get(&case).copied().unwrap_or(0);
         assert!(count > LEAST, "{case:?}: {count}");
     }
 }

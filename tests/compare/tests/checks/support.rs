@@ -27,8 +27,8 @@ fn result(room: usize, call: impl Fn(&mut [u8]) -> Answer) -> (Answer, Vec<u8>) 
 }
 
 /// The row of a date or time: kind, parts, year, month, day, hour, minute,
-/// second, nanoseconds, offset.
-pub type MomentRow = [u8; 15];
+/// second, nanoseconds, offset, mark.
+pub type MomentRow = [u8; 16];
 
 /// The table of `A`, a sequence of these rows; `end` is just past END.
 fn sequence_table(rows: &[MomentRow], end: usize) -> Vec<u8> {
@@ -47,7 +47,7 @@ pub fn check_read(words: &[String], rows: &[MomentRow]) {
     assert_eq!(given, (0, label.len(), expected.len()), "{near:?}");
     let differs = words
         .iter()
-        .zip(rows.iter().zip(table[6..].chunks(15)))
+        .zip(rows.iter().zip(table[6..].chunks(16)))
         .find(|(_, (row, read))| row[..] != read[..]);
     assert_eq!(differs, None);
     assert!(table == expected);
@@ -82,9 +82,9 @@ pub fn check_word_refused(word: &str) {
 /// Checks that no proper table has this row, by the library.
 #[track_caller]
 pub fn check_row_refused(row: MomentRow) {
-    let proper = [12, 1, 7, 0xC6, 1, 7, 0, 0, 0, 0, 0, 0, 0, 0, 0];
+    let proper = [12, 1, 7, 0xC6, 1, 7, 0, 0, 0, 0, 0, 0, 0, 0, 0, 0];
     let table = sequence_table(&[proper, row], 0);
     let answer = result(100, |out| raw::write(b"A", &table, out)).0;
     let given = (answer.code, answer.place, answer.length);
-    assert_eq!(given, (12, 21, 0), "{row:?}");
+    assert_eq!(given, (12, 22, 0), "{row:?}");
 }

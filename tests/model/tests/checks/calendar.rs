@@ -4,7 +4,7 @@
 use crate::support::*;
 use odl_model::dates::{self, Case, Place, Spelling};
 use odl_model::random::{self, Random};
-use std::collections::{BTreeMap, BTreeSet};
+use std::collections::BTreeSet;
 
 const LABELS: usize = 20_000;
 
@@ -109,7 +109,7 @@ fn decimals_are_nanoseconds() {
         ("123456789", "123456789"),
         ("000000001", "000000001"),
     ] {
-        let time = format!("time 10:00:00.{nanoseconds} offset 0");
+        let time = format!("time 10:00:00.{nanoseconds} offset 0 no zone");
         value(&format!("10:00:00.{decimals}"), &time);
         value(&format!("10:00:00.{decimals}0000000000"), &time);
     }
@@ -306,16 +306,16 @@ fn table(values: &[&[u8]]) -> Vec<u8> {
 }
 
 /// The row of a date without a time.
-fn row(year: u16, month: u8, day: u8) -> [u8; 15] {
+fn row(year: u16, month: u8, day: u8) -> [u8; 16] {
     let [high, low] = year.to_be_bytes();
-    [12, 1, high, low, month, day, 0, 0, 0, 0, 0, 0, 0, 0, 0]
+    [12, 1, high, low, month, day, 0, 0, 0, 0, 0, 0, 0, 0, 0, 0]
 }
 
 /// The same with the time 23:59:58, one minute west.
-fn with_time(mut row: [u8; 15]) -> [u8; 15] {
+fn with_time(mut row: [u8; 16]) -> [u8; 16] {
     row[1] = 3;
     row[6..9].copy_from_slice(&[23, 59, 58]);
-    row[13..].copy_from_slice(&[255, 255]);
+    row[13..].copy_from_slice(&[255, 255, 2]);
     row
 }
 
@@ -397,10 +397,11 @@ fn tables_show_the_cases_of_years_and_each_once() {
 #[test]
 fn other_tables_show_none() {
     let (proper, improper) = (row(1990, 1, 1), row(1990, 2, 29));
-    let time = [12, 2, 0, 0, 0, 0, 10, 0, 0, 0, 0, 0, 0, 0, 0];
-    let hour_24 = [12, 3, 7, 0xC6, 2, 29, 24, 0, 0, 0, 0, 0, 0, 0, 0];
-    let mut no_parts = improper;
+    let time = [12, 2, 0, 0, 0, 0, 10, 0, 0, 0, 0, 0, 0, 0, 0, 0];
+    let hour_24 = [12, 3, 7, 0xC6, 2, 29, 24, 0, 0, 0, 0, 0, 0, 0, 0, 0];
+    let [mut no_parts, mut marked] = [improper; 2];
     no_parts[1] = 0;
+    marked[15] = 1;
     for values in [
         // A time, and an integer.
         &[&time[..]][..],
@@ -410,22 +411,14 @@ fn other_tables_show_none() {
         &[&row(0, 0, 1)],
         &[&hour_24],
         &[&no_parts],
+        &[&marked],
         &[&proper, &improper],
         &[&[20, 20], &proper, &[21], &improper],
     ] {
         assert_eq!(dates::in_table(b"A", &table(values)), []);
     }
-    let cut_short = &table(&[&improper])[..15];
+    let cut_short = &table(&[&improper])[..20];
     assert_eq!(dates::in_table(b"A", cut_short), []);
-}
-
-/// Checks that each of these cases is shown more than a few times.
-fn check_shown(cases: Vec<Case>, shown: impl Iterator<Item = Case>) {
-    let mut counts: BTreeMap<Case, usize> = cases.into_iter().map(|case| (case, 0)).collect();
-    for case in shown {
-        *counts.get_mut(&case).unwrap() += 1;
-    }
-    assert!(counts.values().all(|&count| count > 5), "{counts:#?}");
 }
 
 #[test]

@@ -50,7 +50,10 @@ fn end_with_semicolon() {
 
 #[test]
 fn offset_keeps_its_sign() {
-    value("10:00-00:30", "time 10:00:00.000000000 offset -30");
+    value(
+        "10:00-00:30",
+        "time 10:00:00.000000000 offset -30 signed zone",
+    );
 }
 
 #[test]
@@ -182,20 +185,21 @@ fn table_bytes_of_numbers_and_units() {
 
 #[test]
 fn table_bytes_of_dates_times_and_texts() {
-    let table = table_of(b"A={1990-07-04T12:30:15.5-01:30, 2:3, 2001-1, \"\"} END");
+    let table = table_of(b"A={1990-07-04T12:30:15.5-01:30, 2:3, 4:5z, 2001-1, \"\"} END");
     let expected = [
         [1, 0, 0, 0, 1].to_vec(),
         [22].to_vec(),
         // 1990 is 0x07C6; half a second is 0x1DCD6500 nanoseconds; -90 is 0xFFA6.
         [
-            12, 3, 7, 0xC6, 7, 4, 12, 30, 15, 0x1D, 0xCD, 0x65, 0, 0xFF, 0xA6,
+            12, 3, 7, 0xC6, 7, 4, 12, 30, 15, 0x1D, 0xCD, 0x65, 0, 0xFF, 0xA6, 2,
         ]
         .to_vec(),
-        [12, 2, 0, 0, 0, 0, 2, 3, 0, 0, 0, 0, 0, 0, 0].to_vec(),
-        [12, 1, 7, 0xD1, 1, 1, 0, 0, 0, 0, 0, 0, 0, 0, 0].to_vec(),
-        [13, 0, 46, 0, 46].to_vec(),
+        [12, 2, 0, 0, 0, 0, 2, 3, 0, 0, 0, 0, 0, 0, 0, 0].to_vec(),
+        [12, 2, 0, 0, 0, 0, 4, 5, 0, 0, 0, 0, 0, 0, 0, 1].to_vec(),
+        [12, 1, 7, 0xD1, 1, 1, 0, 0, 0, 0, 0, 0, 0, 0, 0, 0].to_vec(),
+        [13, 0, 52, 0, 52].to_vec(),
         [23].to_vec(),
-        [99, 0, 52].to_vec(),
+        [99, 0, 58].to_vec(),
     ];
     assert_eq!(table, expected.concat());
 }

@@ -11,3 +11,4 @@ mod rows;
 mod rulings;
 mod support;
 mod vectors;
+mod zones;

@@ -33,6 +33,24 @@ fn spans_are_replaced_by_what_they_mean() {
     assert_eq!(meaning_of(label), expected);
 }
 
+/// All of a row but the mark of its zone (02 §6), which stands last.
+#[test]
+fn dates_and_times_mean_what_stands_before_their_mark() {
+    let expected: [&[u8]; 7] = [
+        b"\x01A",
+        &[20],
+        &[12, 2, 0, 0, 0, 0, 10, 30, 0, 0, 0, 0, 0, 0, 0],
+        &[12, 3, 7, 0xC6, 1, 7, 10, 30, 0, 0, 0, 0, 0, 255, 255],
+        &[12, 1, 7, 0xC6, 1, 7, 0, 0, 0, 0, 0, 0, 0, 0, 0],
+        &[21],
+        &[99],
+    ];
+    for time in ["10:30", "10:30Z", "10:30z", "10:30+0", "10:30-00:00"] {
+        let label = format!("A=({time},1990-07T10:30-0:1,1990-07) END");
+        assert_eq!(meaning_of(&label), expected, "{time}");
+    }
+}
+
 #[test]
 fn spelling_and_layout_do_not_count() {
     for (one, other) in [
@@ -47,6 +65,8 @@ fn spelling_and_layout_do_not_count() {
         ("A=\"\x01\" END", "A=\"\" END"),
         ("A=1990-07 END", "A=1990-1-7 END"),
         ("A=12:00 END", "A=12:00:00.000Z END"),
+        ("A=12:00z END", "A=12:00+0 END"),
+        ("A=1990-07T12:00 END", "A=1990-007t12:0-00:00 END"),
         ("A=1<m> END", "A=1<M**+1> END"),
         ("A=((1),(x)) END", "A=( (01) /* , */\n, ('X') ) END"),
         ("OBJECT=A END_OBJECT END", "object=a end_object=A END"),
@@ -78,6 +98,7 @@ fn all_else_counts() {
         ("A=1<M*S> END", "A=1<M/S> END"),
         ("A=1<M> END", "A=1<M**2> END"),
         ("A=10:00+01 END", "A=09:00 END"),
+        ("A=10:00+0:1 END", "A=10:00-0:1 END"),
         ("A=1990-07-04 END", "A=1990-07-04T0:0 END"),
         ("OBJECT=A END_OBJECT END", "GROUP=A END_GROUP END"),
         ("A=\"c\" END", "A=\"\" END"),

@@ -209,18 +209,24 @@ fn digit_counts_go_before_ranges() {
 
 #[test]
 fn seconds_and_zones() {
-    value("10:00:12.", "time 10:00:12.000000000 offset 0");
-    value("10:00:12.123456789000", "time 10:00:12.123456789 offset 0");
+    value("10:00:12.", "time 10:00:12.000000000 offset 0 no zone");
+    value(
+        "10:00:12.123456789000",
+        "time 10:00:12.123456789 offset 0 no zone",
+    );
     value_refused("10:00:12.1234567891", 5);
-    value("10:00z", "time 10:00:00.000000000 offset 0");
-    value("10:00-12:59", "time 10:00:00.000000000 offset -779");
-    value("10:00+0:1", "time 10:00:00.000000000 offset 1");
+    value("10:00z", "time 10:00:00.000000000 offset 0 Z");
+    value(
+        "10:00-12:59",
+        "time 10:00:00.000000000 offset -779 signed zone",
+    );
+    value("10:00+0:1", "time 10:00:00.000000000 offset 1 signed zone");
     for word in ["1990-07-04Z", "1990-07-04+7", "T12:00", "1990-07-04T"] {
         value_refused(word, 4);
     }
     value(
         "2000-02-29t0:0:0",
-        "date-time 2000-02-29 00:00:00.000000000 offset 0",
+        "date-time 2000-02-29 00:00:00.000000000 offset 0 no zone",
     );
 }
 
@@ -493,11 +499,13 @@ fn numbers_that_no_table_has() {
 
 #[test]
 fn moments_that_no_table_has() {
-    let date = [12, 1, 7, 0xC6, 7, 4, 0, 0, 0, 0, 0, 0, 0, 0, 0];
-    let time = [12, 2, 0, 0, 0, 0, 23, 59, 59, 0x3B, 0x9A, 0xC9, 0xFF, 3, 11];
+    let date = [12, 1, 7, 0xC6, 7, 4, 0, 0, 0, 0, 0, 0, 0, 0, 0, 0];
+    let time = [
+        12, 2, 0, 0, 0, 0, 23, 59, 59, 0x3B, 0x9A, 0xC9, 0xFF, 3, 11, 2,
+    ];
     proper(&[NAME, &date, LAST]);
     proper(&[NAME, &time, LAST]);
-    let changes: [(&[u8; 15], usize, u8); 19] = [
+    let changes: [(&[u8; 16], usize, u8); 19] = [
         (&date, 1, 0),
         (&date, 1, 4),
         (&date, 1, 3 | 4),

@@ -2,6 +2,8 @@
 //! its printed layout, not by way of the model's own decoder.
 
 use odl_model::{read, write, Answer};
+use std::collections::BTreeMap;
+use std::fmt::Debug;
 
 const UNTOUCHED: u8 = 0xA5;
 
@@ -102,7 +104,7 @@ pub fn row_slices(mut table: &[u8]) -> Vec<&[u8]> {
             4 | 6 | 20..=23 => 0,
             10 => 8,
             11 => 10,
-            12 => 14,
+            12 => 15,
             15 => 6,
             99 => 2,
             _ => panic!("no row of kind {kind}"),
@@ -152,9 +154,10 @@ fn described_row(label: &[u8], row: &[u8]) -> String {
 fn described_moment(body: &[u8]) -> String {
     let date = format!("{:04}-{:02}-{:02}", offset(&body[1..]), body[3], body[4]);
     let nanoseconds = u32::from_be_bytes(body[8..12].try_into().unwrap());
-    let zone = i16::from_be_bytes([body[12], body[13]]);
+    let offset = i16::from_be_bytes([body[12], body[13]]);
+    let zone = ["no zone", "Z", "signed zone"][usize::from(body[14])];
     let time = format!(
-        "{:02}:{:02}:{:02}.{nanoseconds:09} offset {zone}",
+        "{:02}:{:02}:{:02}.{nanoseconds:09} offset {offset} {zone}",
         body[5], body[6], body[7]
     );
     match body[0] {
@@ -215,4 +218,13 @@ pub fn unescaped(text: &str) -> Vec<u8> {
             }
         };
     }
+}
+
+/// Checks that each of these cases is shown more than a few times.
+pub fn check_shown<Case: Ord + Debug>(cases: Vec<Case>, shown: impl Iterator<Item = Case>) {
+    let mut counts: BTreeMap<Case, usize> = cases.into_iter().map(|case| (case, 0)).collect();
+    for case in shown {
+        *counts.get_mut(&case).unwrap() += 1;
+    }
+    assert!(counts.values().all(|&count| count > 5), "{counts:#?}");
 }

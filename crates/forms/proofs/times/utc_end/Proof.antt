@@ -1,4 +1,4 @@
--- The end of a time with no offset.
+-- The end of a time behind its Z.
 use borrow.Author.Needs.{needs}
 use Rattle.forms.proofs.times.utc_end.Statement.{statement}
 use Rattle.forms.proofs.times.utc_end.Tie as tie

@@ -22,4 +22,5 @@ time-spec =
     (λ c κs. search bodies)
     (λ c κs. search bodies)
     (λ c. search needs)
+    (λ c κs. search bodies)
     (λ c. search bodies))

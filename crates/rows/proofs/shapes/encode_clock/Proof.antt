@@ -5,7 +5,7 @@ use Rattle.rows.proofs.shapes.encode_clock.Statement.{statement}
 use Rattle.rows.proofs.shapes.encode_clock.Tie as tie
 
 returns : tie.Need-returns
-returns c = onward (onward (onward (onward (c .before .before .before .before .before .before .before .before .before .before .before .before .before .before .before .before .before .before .before .encode-byte .ensures) (c .before .before .before .before .before .before .before .before .before .before .before .before .before .before .before .encode-byte2 .ensures)) (c .before .before .before .before .before .before .before .before .before .before .before .encode-byte3 .ensures)) (c .before .before .before .before .before .before .encode-four .ensures)) (c .before .before .encode-two .ensures)
+returns c = onward (onward (onward (c .before .before .before .before .before .before .before .before .before .before .before .before .before .before .before .encode-byte .ensures) (c .before .before .before .before .before .before .before .before .before .before .before .encode-byte2 .ensures)) (c .before .before .before .before .before .before .before .encode-byte3 .ensures)) (c .before .before .encode-four .ensures)
 
 pub encode-clock-spec : {M : Type 1} → statement M
 encode-clock-spec =
@@ -22,11 +22,6 @@ encode-clock-spec =
     (λ c. search needs)
     (λ c κs. search needs)
     (λ c. search needs)
-    (λ c. search needs)
-    (λ c. search needs)
-    (λ c. search needs)
-    (λ c. search needs)
-    (λ c κs. search needs)
     (λ c. search needs)
     (λ c. search needs)
     (λ c. search needs)

@@ -10,4 +10,5 @@ timed-spec =
     (tie.spec
     (λ c. search needs)
     (λ c κs. search values)
+    (λ c κs. search values)
     (λ c. search values))
