@@ -63,8 +63,8 @@ pub const ZONE_Z: u8 = 1;
 
 pub const SIGNED_ZONE: u8 = 2;
 
-// A date, a time or both; an absent part is all 0. The offset is in minutes. The mark stands where a byte is to spare between two others: as the
-// last field it would make every row longer.
+// A date, a time or both; an absent part is all 0. The offset is in minutes. The mark stands behind the parts because labels are read faster so
+// than with it last.
 pub struct Moment {
     pub parts: u8,
     pub mark: u8,
