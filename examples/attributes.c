@@ -4,33 +4,9 @@
 #include <stdlib.h>
 #include <string.h>
 
+#include "labels.h"
 #include "odl.h"
 
-static const char *const reasons[] = {
-    "accepted",
-    "the label is over 65,535 bytes",
-    "a byte that begins no element, or is not allowed in its text, symbol or comment",
-    "a text, symbol or comment that is not closed",
-    "a word of no form, or an empty symbol",
-    "a number, radix, digit, length, date or unit exponent past its limit",
-    "an element that cannot stand there",
-    "a closing name that is not the opening one",
-    "OBJECT or GROUP at depth 80",
-    "END without spacing or a line end after it",
-    "the input ends early",
-    "the room is too short",
-    "the table is not proper over this label",
-    "the written label would be over 65,535 bytes",
-    "no attribute of that name",
-    "not the offset of a row that is asked for",
-};
-
-/* One byte more than a label may have is enough to see that it is too long. */
-static uint8_t label[ODL_LONGEST_LABEL + 1];
-static size_t label_len;
-
-/* Five times the label's length is always enough. */
-static uint8_t table[5 * ODL_LONGEST_LABEL];
 static size_t table_len;
 
 /* A number of `count` bytes, high byte first. */
@@ -183,20 +159,11 @@ static size_t print_value(size_t row) {
     return row + row_length(row);
 }
 
-static int refused(const char *file, uint8_t code, size_t place) {
-    printf("%s: refused with code %u at %zu: %s\n", file, code, place, reasons[code]);
-    return EXIT_FAILURE;
-}
-
 /* Reads the file's label into the table. */
 static int read_label(const char *name) {
-    FILE *file = fopen(name, "rb");
-    if (file == NULL) {
-        perror(name);
+    if (load(name) != EXIT_SUCCESS) {
         return EXIT_FAILURE;
     }
-    label_len = fread(label, 1, sizeof label, file);
-    fclose(file);
     size_t place;
     uint8_t code = odl_read(label, label_len, table, sizeof table, &place, &table_len);
     return code == ODL_ACCEPTED ? EXIT_SUCCESS : refused(name, code, place);

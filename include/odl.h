@@ -2,7 +2,8 @@
  *
  * A label is read into a table: a run of rows, each one byte of kind and a
  * body whose length the kind fixes. A table is written out as a canonical
- * label. The other calls ask about single rows.
+ * label. Three calls ask about single rows. A session book counts labels by the
+ * weekday of their START_TIME.
  *
  * Buffers. Every buffer is a pointer and its length in bytes, and the pointer
  * may be NULL where the length is 0. Any bytes are legal in every buffer: what
@@ -12,25 +13,30 @@
  * written whole or not at all: on any code but 0 the lent room is untouched,
  * and on 0 it is untouched beyond the reported length.
  *
+ * Book. The pointer to it must not be NULL, and the book must not overlap any
+ * buffer. Any eight numbers are legal in it: their sum does not wrap. On any
+ * code but 0 the book is as it was.
+ *
  * Results. Every call sets all of them. The pointers to results must not be
- * NULL, must be distinct, and must point outside all buffers: the lent room and
- * those that are read.
+ * NULL, must be distinct, and must point outside the book and all buffers: the
+ * lent room and those that are read.
  *
  * Calls share no state and may run at the same time in many threads, each
- * with its own room and results. A call needs no more than 64 KiB of stack;
- * this is measured (tests/c/stack.c: 20 KB at most), not proved.
+ * with its own room, book and results; threads that share a book take turns. A
+ * call needs no more than 64 KiB of stack; this is measured (tests/c/stack.c:
+ * 21 KB at most), not proved.
  *
- * Room on a board. For x86-64 the library has less than 44,000 bytes of code
- * and less than 2,200 bytes of constant data, and nothing that is written to.
+ * Room on a board. For x86-64 the library has less than 46,000 bytes of code
+ * and less than 2,300 bytes of constant data, and nothing that is written to.
  * It holds no arrays of constants: the constant data are the compiler's tables
  * for branches, and masks. `tests/c/constants LIBRARY` measures the bytes.
  *
- * Time. odl_read takes time in proportion to the label. The other calls judge
- * the whole table first, each time anew, so each takes time in proportion to
- * the table and to all bytes that its spans show. In a table from elsewhere
- * these may be many: each row may show the whole label. To walk all rows of a
- * table that odl_read has just made, step from row to row as the kinds say: the
- * spans of names stand in the rows.
+ * Time. odl_read and odl_take take time in proportion to the label. The other
+ * calls judge the whole table first, each time anew, so each takes time in
+ * proportion to the table and to all bytes that its spans show. In a table from
+ * elsewhere these may be many: each row may show the whole label. To walk all
+ * rows of a table that was just read, step from row to row as the kinds say:
+ * the spans of names stand in the rows.
  */
 #ifndef ODL_H
 #define ODL_H
@@ -44,6 +50,9 @@ extern "C" {
 
 /* No label, read or written, is longer than this many bytes. */
 #define ODL_LONGEST_LABEL 65535
+
+/* A book whose eight counts sum to this or more is full. */
+#define ODL_MOST_SESSIONS 1000000
 
 /* What a call answers, and the place that comes with it. */
 enum odl_code {
@@ -70,7 +79,8 @@ enum odl_code {
                                  table's length if whole rows are lacking */
     ODL_WRITTEN_TOO_LONG = 13, /* written label over 65,535 bytes: 65535 */
     ODL_NAME_ABSENT = 14,     /* no attribute of that name: 0 */
-    ODL_NO_SUCH_ROW = 15      /* not the offset of a row that is asked for: 0 */
+    ODL_NO_SUCH_ROW = 15,     /* not the offset of a row that is asked for: 0 */
+    ODL_BOOK_FULL = 16        /* the book is full: 0 */
 };
 
 /* Kinds of row, with the body that follows the byte of kind. Numbers stand
@@ -116,6 +126,23 @@ enum odl_zone { ODL_NO_ZONE = 0, ODL_Z = 1, ODL_SIGNED_ZONE = 2 };
 
 /* How a unit is joined to those before it. */
 enum odl_joint { ODL_FIRST = 0, ODL_TIMES = 1, ODL_DIVIDED = 2 };
+
+/* A session book: how many sessions started on each weekday, Monday first, and
+ * last how many are undated. All zeros is the empty book. To keep a book in a
+ * file, write its counts: the bytes of the struct are this machine's. */
+struct odl_book { uint32_t counts[8]; };
+
+/* Where each counter stands in the counts. */
+enum odl_counts {
+    ODL_AT_MONDAY = 0,
+    ODL_AT_TUESDAY = 1,
+    ODL_AT_WEDNESDAY = 2,
+    ODL_AT_THURSDAY = 3,
+    ODL_AT_FRIDAY = 4,
+    ODL_AT_SATURDAY = 5,
+    ODL_AT_SUNDAY = 6,
+    ODL_AT_UNDATED = 7
+};
 
 /* Reads a label into a table. Codes 0 to 11. On 0 the table stands in the
  * first *length bytes of the room and *place is the offset just past END;
@@ -175,6 +202,25 @@ void odl_name(const uint8_t *label, size_t label_len,
               const uint8_t *table, size_t table_len,
               size_t row,
               size_t *start, size_t *end);
+
+/* Takes a session into the book: reads its label, and counts the session under
+ * the Gregorian weekday of its START_TIME. That is the date as written, the
+ * tester's own day: the zone's offset is not applied. 1979-07-08 is a Sunday.
+ * START_TIME is found as odl_find finds it from row 0: the first one outside
+ * all blocks decides, whatever comes after it. The session is undated if there
+ * is none, or if its value is not a single one with a date: a time alone, a
+ * text, a sequence or set, of one date too.
+ * Codes 0 to 11 and 16. 0 to 11 are those of odl_read for this label and room,
+ * with its *place and *length. On 0 exactly one counter is one more, the others
+ * are as they were, and the table stands in the room as odl_read leaves it. 16
+ * comes after all of them: the book is full, but the label is right and its
+ * table fits the room. *place and *length are then 0. So with a full book too a
+ * label that is refused has its own code, and one whose table does not fit 11.
+ * On any code but 0 the book is as it was, and all of the room untouched. */
+uint8_t odl_take(struct odl_book *book,
+                 const uint8_t *label, size_t label_len,
+                 uint8_t *table, size_t table_len,
+                 size_t *place, size_t *length);
 
 #ifdef __cplusplus
 }

@@ -1,4 +1,4 @@
-//! Times reading and writing by the library and by the model in one run:
+//! Times reading, taking and writing by the library and by the model in one run:
 //! `cargo run --release`. The two take turns.
 
 mod labels;
@@ -26,6 +26,11 @@ fn main() {
     }
     for (name, label) in labels::KINDS {
         for size in SIZES {
+            time_taking(name, &label(size));
+        }
+    }
+    for (name, label) in labels::KINDS {
+        for size in SIZES {
             time_writing(name, label, size);
         }
     }
@@ -40,6 +45,24 @@ fn time_reading(name: &str, label: &[u8]) {
         || odl_model::read(black_box(label), &mut other_room).code,
     );
     report("read", name, label.len(), timed);
+}
+
+/// Each call takes the label into an empty book.
+fn time_taking(name: &str, label: &[u8]) {
+    let mut room = vec![0; 5 * label.len()];
+    let mut other_room = room.clone();
+    let timed = take_turns(
+        || {
+            odl::raw::take(
+                &mut odl::raw::Book { counts: [0; 8] },
+                black_box(label),
+                &mut room,
+            )
+            .code
+        },
+        || odl_model::take(&mut [0; 8], black_box(label), &mut other_room).code,
+    );
+    report("take", name, label.len(), timed);
 }
 
 /// Writes what was read from a label of about this size, or of the next

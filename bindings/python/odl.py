@@ -30,9 +30,16 @@ Ask the mark and not the printed time, which has +00:00 for both; and ask it of
 the camera's own label: the canonical one has a zone with every time.
 
 `relabel` gives the canonical label, and `same` tells whether two labels mean
-the same, whatever their layout. All raise `OdlError` with code, place and reason
-for a label that is refused, `same` also with which of the two it is; nothing is
-guessed.
+the same, whatever their layout. A `Book` counts sessions by the weekday of their
+START_TIME:
+
+    book = odl.Book()
+    for label in labels:
+        book.take(label)
+    book.counts["Sunday"]
+
+All raise `OdlError` with code, place and reason for a label that is refused,
+`same` also with which of the two it is; nothing is guessed.
 
 The library is `target/libodl.so` at the project's root, made by the script
 `build` beside this file, or the file that ODL_LIBRARY names.
@@ -43,12 +50,14 @@ import datetime
 import decimal
 import enum
 import os
+import threading
 from dataclasses import dataclass
-from typing import Any, List, Optional, Tuple, Union
+from typing import Any, Dict, List, Mapping, Optional, Tuple, Union
 
 __all__ = [
     "Attribute",
     "Block",
+    "Book",
     "Mark",
     "Moment",
     "OdlError",
@@ -81,12 +90,25 @@ REASONS = {
     13: "the written label would be over 65,535 bytes",
     14: "no attribute of that name",
     15: "not the offset of a row that is asked for",
+    16: "the book is full",
 }
+
+COUNTERS = (
+    "Monday",
+    "Tuesday",
+    "Wednesday",
+    "Thursday",
+    "Friday",
+    "Saturday",
+    "Sunday",
+    "undated",
+)
 
 
 class OdlError(ValueError):
-    """A label was refused: `code`, `place` in the label, and `reason`. Where two
-    labels were given, `label` is "first" or "second", else None."""
+    """A label was refused: `code`, `place` in the label, 0 if it is the book that
+    is full, and `reason`. Where two labels were given, `label` is "first" or
+    "second", else None."""
 
     def __init__(self, code: int, place: int):
         super().__init__(code, place)
@@ -233,7 +255,7 @@ class Block:
 def read(data: bytes) -> list:
     """The statements of a label."""
     data = bytes(memoryview(data))
-    return _Table(data, _table(data)).statements()
+    return _Table(data, _table(data, _reading(data))).statements()
 
 
 def relabel(data: bytes) -> bytes:
@@ -254,6 +276,64 @@ def same(a: bytes, b: bytes) -> bool:
     return first == _canonical(b, "second")
 
 
+class Book:
+    """Counts sessions by weekday: `counts` has a number for each of Monday to
+    Sunday, and for undated. `Book()` is empty; `Book(counts)` goes on from counts
+    that were kept, where a name left out is 0.
+
+    A book may be shared by threads."""
+
+    def __init__(self, counts: Optional[Mapping[str, int]] = None):
+        counts = {**dict.fromkeys(COUNTERS, 0), **({} if counts is None else counts)}
+        for name, number in counts.items():
+            if name not in COUNTERS:
+                raise ValueError(f"no counter: {name}")
+            if not 0 <= number < 2**32:
+                raise ValueError(f"a count is from 0 to 4294967295, not {number}")
+        self._book = _Book(_Counts(*counts.values()))
+        self._lock = threading.Lock()
+
+    @property
+    def counts(self) -> Dict[str, int]:
+        """The number of each counter by its name, Monday first, undated last."""
+        with self._lock:
+            return dict(zip(COUNTERS, self._book.counts))
+
+    def take(self, data: bytes) -> str:
+        """Reads a label and counts its session under the weekday of the first
+        START_TIME at the top: of the date as written, whatever the zone. Without
+        one, or with one that is not a single value with a date, the session is
+        undated. The answer is the counter's name.
+
+        Raises for a label that is refused, and with code 16 if the book is full:
+        the counts come to 1,000,000 or more. The book then stays as it is."""
+        data = bytes(memoryview(data))
+        with self._lock:
+            before = list(self._book.counts)
+            _table(data, _taking(self._book, data))
+            after = list(self._book.counts)
+        (name,) = (name for name, old, more in zip(COUNTERS, before, after) if old != more)
+        return name
+
+    def __eq__(self, other):
+        return self.counts == other.counts if isinstance(other, Book) else NotImplemented
+
+    def __repr__(self):
+        return f"Book({self.counts!r})"
+
+    def __reduce__(self):
+        return type(self), (self.counts,)
+
+
+_Counts = ctypes.c_uint32 * len(COUNTERS)
+
+
+class _Book(ctypes.Structure):
+    """The book as the library has it."""
+
+    _fields_ = [("counts", _Counts)]
+
+
 def _load():
     here = os.path.dirname(os.path.abspath(__file__))
     path = os.environ.get("ODL_LIBRARY", os.path.join(here, "..", "..", "target", "libodl.so"))
@@ -263,6 +343,7 @@ def _load():
         raise ImportError(
             f"the library cannot be loaded ({error}): run the script `build` beside odl.py"
         ) from None
+    book = [ctypes.POINTER(_Book)]
     given = [ctypes.c_char_p, ctypes.c_size_t]
     room = [ctypes.c_void_p, ctypes.c_size_t]
     number = ctypes.POINTER(ctypes.c_size_t)
@@ -270,6 +351,7 @@ def _load():
         ("odl_read", given),
         ("odl_write", given + given),
         ("odl_text", given + given + [ctypes.c_size_t]),
+        ("odl_take", book + given),
     ]:
         function = getattr(library, name)
         function.argtypes = handed + room + [number, number]
@@ -278,6 +360,7 @@ def _load():
 
 
 _library = _load()
+_ROOM_TOO_SHORT = 11
 
 
 def _call(size, call):
@@ -289,19 +372,23 @@ def _call(size, call):
     return code, place.value, length.value, room
 
 
-def _filled(size, call):
-    code, place, length, room = _call(size, call)
+def _result(code, place, length, room):
+    """What the call left in its room."""
     if code != 0:
         raise OdlError(code, place)
     return room.raw[:length]
 
 
+def _filled(size, call):
+    return _result(*_call(size, call))
+
+
 def _grown(size, call):
     """The same, with all the room that is needed."""
-    code, _, length, room = _call(size, call)
-    if code == 0:
-        return room.raw[:length]
-    return _filled(length, call)
+    code, place, length, room = _call(size, call)
+    if code == _ROOM_TOO_SHORT:
+        return _filled(length, call)
+    return _result(code, place, length, room)
 
 
 def _reading(data):
@@ -309,8 +396,14 @@ def _reading(data):
     return lambda *room: _library.odl_read(data, len(data), *room)
 
 
-def _table(data):
-    return _grown(min(len(data), LONGEST_LABEL), _reading(data))
+def _taking(book, data):
+    """The call that takes a label into a book."""
+    return lambda *room: _library.odl_take(book, data, len(data), *room)
+
+
+def _table(data, call):
+    """The table of a label, by the call that reads or takes it."""
+    return _grown(min(len(data), LONGEST_LABEL), call)
 
 
 def _written(data, table):
@@ -324,7 +417,7 @@ def _canonical(data, label):
     """The canonical label of the "first" or the "second" label."""
     data = bytes(memoryview(data))
     try:
-        return _written(data, _table(data))
+        return _written(data, _table(data, _reading(data)))
     except OdlError as error:
         error.label = label
         raise

@@ -1,17 +1,7 @@
-"""What programs over the labels of many sessions share: when a session started,
-and an answer for each file, with those that are refused apart."""
+"""What programs over the labels of many sessions share: an answer for each file,
+with those that are refused apart."""
 
 import odl
-
-
-def start_time(label: bytes):
-    """The value of the first START_TIME at the top; None if there is none."""
-    values = (
-        statement.value
-        for statement in odl.read(label)
-        if isinstance(statement, odl.Attribute) and statement.name == "START_TIME"
-    )
-    return next(values, None)
 
 
 def ask(files, question):

@@ -13,6 +13,7 @@ import re
 import tempfile
 import threading
 import unittest
+import unittest.mock
 from decimal import Decimal
 
 import odl
@@ -48,20 +49,20 @@ def value(written):
     return statement.value
 
 
-def vectors():
-    """Name, label and answer of each example in the list."""
+def listed(file):
+    """Name and label of each example in the list, and what stands behind them."""
     escapes = {b"n": b"\n", b"r": b"\r", b"t": b"\t", b'"': b'"'}
 
     def byte(match):
         mark = match[1]
         return bytes([int(mark[1:], 16)]) if mark[:1] == b"x" else escapes[mark]
 
-    with open(os.path.join(ROOT, "examples", "vectors.txt"), "rb") as stream:
+    with open(os.path.join(ROOT, "examples", file), "rb") as stream:
         for line in stream.read().split(b"\n"):
             if line and not line.startswith(b"#"):
-                name, _, label, answer, _ = line.split(b"\t")
+                name, _, label, *rest = line.split(b"\t")
                 label = re.sub(rb'\\(x[0-9A-F]{2}|[nrt"])', byte, label)
-                yield name.decode(), label, [int(number) for number in answer.split()]
+                yield name.decode(), label, [field.decode() for field in rest]
 
 
 class Reading(unittest.TestCase):
@@ -499,10 +500,149 @@ class Comparing(unittest.TestCase):
                 odl.same(one, other)
 
 
+class Books(unittest.TestCase):
+    def refused(self, book, label, code, place):
+        """The label is refused, and the book unchanged."""
+        before = book.counts
+        with self.assertRaises(odl.OdlError) as caught:
+            book.take(label)
+        self.assertEqual((caught.exception.code, caught.exception.place), (code, place))
+        self.assertEqual(book.counts, before)
+        return caught.exception
+
+    def test_counters(self):
+        for label, expected in [
+            (b"START_TIME=1979-07-08 END", "Sunday"),
+            (b"START_TIME=1979-07-09 END", "Monday"),
+            (b"START_TIME=1979-07-10 END", "Tuesday"),
+            (b"START_TIME=1979-07-11 END", "Wednesday"),
+            (b"START_TIME=1979-07-12 END", "Thursday"),
+            (b"START_TIME=1979-07-13 END", "Friday"),
+            (b"START_TIME=1979-07-14 END", "Saturday"),
+            (b"START_TIME=1979-07-08T05:19:11 END", "Sunday"),
+            (b"start_time=1979-07-08T23:30-12:59 END", "Sunday"),
+            (b"START_TIME=1979-07-08T00:10+12:59 END", "Sunday"),
+            (b"START_TIME=1990-07 END", "Sunday"),
+            (b"START_TIME=1990-158T1:2:3.123456789 END", "Thursday"),
+            (b"START_TIME=2000-366 START_TIME=10:00 END", "Sunday"),
+            (b"START_TIME=10:00 START_TIME=2000-366 END", "undated"),
+            (b"START_TIME=(1990-07) END", "undated"),
+            (b"START_TIME={1990-07} END", "undated"),
+            (b'START_TIME="1990-07" END', "undated"),
+            (b"^START_TIME=1990-07 END", "undated"),
+            (b"OBJECT=X START_TIME=1990-07 END_OBJECT END", "undated"),
+            (b"END", "undated"),
+        ]:
+            with self.subTest(label):
+                book = odl.Book()
+                self.assertEqual(book.take(label), expected)
+                self.assertEqual(book, odl.Book({expected: 1}))
+
+    def test_calendar(self):
+        # The first day of each month and the day before it, over 400 years, after
+        # which weekdays come back: 146,097 days are 20,871 weeks.
+        book = odl.Book()
+        for year in range(1800, 2200):
+            for month in range(1, 13):
+                first = datetime.date(year, month, 1)
+                for day in (first, first - datetime.timedelta(days=1)):
+                    name = book.take(b"START_TIME=" + day.isoformat().encode() + b" END")
+                    self.assertEqual(name, odl.COUNTERS[day.weekday()], day)
+        self.assertEqual(sum(book.counts.values()), 400 * 12 * 2)
+
+    def test_counts(self):
+        book = odl.Book()
+        self.assertEqual(list(book.counts), list(odl.COUNTERS))
+        self.assertEqual(set(book.counts.values()), {0})
+        for label in [b"START_TIME=1979-07-08 END", b"END", b"END"]:
+            book.take(label)
+        expected = {**dict.fromkeys(odl.COUNTERS, 0), "Sunday": 1, "undated": 2}
+        self.assertEqual(book.counts, expected)
+        book.counts["Sunday"] = 7
+        self.assertEqual(book.counts, expected)
+        self.assertEqual(repr(book), f"Book({expected})")
+
+    def test_counts_that_were_kept(self):
+        kept = {name: number for number, name in enumerate(odl.COUNTERS, 1)}
+        book = odl.Book(kept)
+        self.assertEqual(book.counts, kept)
+        self.assertEqual(odl.Book(dict(reversed(kept.items()))), book)
+        book.take(b"START_TIME=1979-07-09 END")
+        self.assertEqual(book.counts, {**kept, "Monday": 2})
+        self.assertEqual(kept["Monday"], 1)
+        for copied in [copy.copy(book), copy.deepcopy(book), pickle.loads(pickle.dumps(book))]:
+            self.assertEqual(copied, book)
+            copied.take(b"END")
+            self.assertNotEqual(copied, book)
+        self.assertNotEqual(book, book.counts)
+
+    def test_counts_that_no_book_has(self):
+        for counts in [{"sunday": 1}, {8: 1}, {"Sunday": -1}, {"Sunday": 2**32}]:
+            with self.assertRaises(ValueError):
+                odl.Book(counts)
+        for counts in [{"Sunday": 1.5}, {"Sunday": "1"}, {"Sunday": None}, [1] * 8, [], "", 0]:
+            with self.assertRaises(TypeError):
+                odl.Book(counts)
+
+    def test_refused_labels(self):
+        for book in [odl.Book(), odl.Book({"Friday": 3}), odl.Book({"Friday": 1000000})]:
+            self.refused(book, b"", 10, 0)
+            self.refused(book, b"START_TIME=1979-366 END", 5, 11)
+            self.refused(book, b"START_TIME=1979-07-08 END;", 9, 22)
+            self.refused(book, b"END".ljust(65536), 1, 65535)
+
+    def test_a_full_book(self):
+        for counts in [
+            {"Monday": 1000000},
+            {"undated": 1000001},
+            dict.fromkeys(odl.COUNTERS, 125000),
+            {"Monday": 2**32 - 1, "Tuesday": 1},
+            dict.fromkeys(odl.COUNTERS, 2**32 - 1),
+        ]:
+            error = self.refused(odl.Book(counts), b"START_TIME=1979-07-08 END", 16, 0)
+            self.assertEqual(error.reason, "the book is full")
+            self.assertEqual(str(error), "code 16 at 0: the book is full")
+        book = odl.Book({"Monday": 999999})
+        self.assertEqual(book.take(b"END"), "undated")
+        self.refused(book, b"END", 16, 0)
+
+    def test_a_long_table_is_taken_once(self):
+        label = b"A=(" + b"1," * 20000 + b"1) START_TIME=1979-07-08 END"
+        book = odl.Book()
+        self.assertEqual(book.take(label), "Sunday")
+        self.assertEqual(book, odl.Book({"Sunday": 1}))
+        self.refused(odl.Book({"Sunday": 1000000}), label, 16, 0)
+
+    def test_other_buffers(self):
+        book = odl.Book()
+        self.assertEqual(book.take(bytearray(b"END")), "undated")
+        self.assertEqual(book.take(memoryview(b"END")), "undated")
+        for wrong in ["END", 7, None]:
+            with self.assertRaises(TypeError):
+                book.take(wrong)
+        self.assertEqual(book, odl.Book({"undated": 2}))
+
+    def test_threads(self):
+        def work(label, name):
+            for _ in range(200):
+                if book.take(label) != name:
+                    wrong.append(name)
+
+        book, wrong = odl.Book(), []
+        sessions = [(b"END", "undated"), (b"START_TIME=1979-07-08 END", "Sunday")] * 2
+        threads = [threading.Thread(target=work, args=session) for session in sessions]
+        for thread in threads:
+            thread.start()
+        for thread in threads:
+            thread.join()
+        self.assertEqual((book, wrong), (odl.Book({"undated": 400, "Sunday": 400}), []))
+
+
 class Listed(unittest.TestCase):
     def test_answers(self):
         count = 0
-        for name, label, (code, place, _) in vectors():
+        for name, label, (answer, _) in listed("vectors.txt"):
+            code, place, _ = map(int, answer.split())
             with self.subTest(name):
                 count += 1
                 try:
@@ -512,6 +652,26 @@ class Listed(unittest.TestCase):
                 except odl.OdlError as error:
                     self.assertEqual((error.code, error.place), (code, place))
         self.assertGreater(count, 200)
+
+    def test_sessions(self):
+        count = 0
+        for name, label, (room, before, answer, counter, _) in listed("sessions.txt"):
+            if room != "ample":
+                continue  # A taking has all the room that it needs.
+            code, place, _ = map(int, answer.split())
+            counts = [0] * 8 if before == "empty" else map(int, before.split())
+            counts = dict(zip(odl.COUNTERS, counts))
+            book = odl.Book(counts)
+            with self.subTest(name):
+                count += 1
+                try:
+                    self.assertEqual(book.take(label), counter)
+                    self.assertEqual(code, 0)
+                    counts[counter] += 1
+                except odl.OdlError as error:
+                    self.assertEqual((error.code, error.place), (code, place))
+                self.assertEqual(book.counts, counts)
+        self.assertGreater(count, 100)
 
 
 def run(program, labels):
@@ -530,22 +690,6 @@ def run(program, labels):
 
 
 class Weekdays(unittest.TestCase):
-    def test_counters(self):
-        for label, expected in [
-            (b"START_TIME=1979-07-08T05:19:11 END", "Sunday"),
-            (b"start_time=1979-07-08T23:30-12:59 END", "Sunday"),
-            (b"START_TIME=1990-07 END", "Sunday"),
-            (b"START_TIME=1990-158T1:2:3.123456789 END", "Thursday"),
-            (b"START_TIME=2000-366 START_TIME=10:00 END", "Sunday"),
-            (b"START_TIME=10:00 START_TIME=2000-366 END", "undated"),
-            (b"START_TIME=(1990-07) END", "undated"),
-            (b'START_TIME="1990-07" END', "undated"),
-            (b"^START_TIME=1990-07 END", "undated"),
-            (b"OBJECT=X START_TIME=1990-07 END_OBJECT END", "undated"),
-            (b"END", "undated"),
-        ]:
-            self.assertEqual(weekdays.counter(label), expected)
-
     def test_program(self):
         labels = [b"START_TIME=1979-07-08 END", b"END", b"END;", None]
         status, files, lines = run(weekdays, labels)
@@ -556,6 +700,16 @@ class Weekdays(unittest.TestCase):
         )
         self.assertTrue(lines[9].startswith(f"refused {files[3]}: "))
         self.assertEqual(len(lines), 10)
+
+    def test_a_full_book_is_a_refusal_as_any_other(self):
+        book = odl.Book({"Monday": 999999})
+        with unittest.mock.patch.object(odl, "Book", return_value=book):
+            status, files, lines = run(weekdays, [b"END", b"END", b"END;"])
+        self.assertEqual(status, 1)
+        self.assertEqual(lines[0].split(), ["Monday", "999999"])
+        self.assertEqual(lines[7].split(), ["undated", "1"])
+        self.assertEqual(lines[8], f"refused {files[1]}: code 16 at 0: the book is full")
+        self.assertTrue(lines[9].startswith(f"refused {files[2]}: code 9 at 0: "))
 
 
 class ZonesOfSessions(unittest.TestCase):

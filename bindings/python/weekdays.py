@@ -4,33 +4,20 @@
 
 Undated labels (no START_TIME at the top, or one that is not a single value
 with a date) are counted apart. Files that are refused are listed with their
-reason, counted nowhere, and make the program end with status 1.
+reason, counted nowhere, and make the program end with status 1: also a right
+one once 1,000,000 are counted, for then the book is full.
 """
 
-import datetime
 import sys
 
 import odl
 import sessions
 
-WEEKDAYS = ["Monday", "Tuesday", "Wednesday", "Thursday", "Friday", "Saturday", "Sunday"]
-
-
-def counter(label: bytes) -> str:
-    """The weekday's name, or "undated"."""
-    value = sessions.start_time(label)
-    if isinstance(value, odl.Moment):
-        value = value.date
-    # A datetime is a date too; a time of day is not.
-    return WEEKDAYS[value.weekday()] if isinstance(value, datetime.date) else "undated"
-
 
 def main(files) -> int:
-    counts = dict.fromkeys(WEEKDAYS + ["undated"], 0)
-    answers, refused = sessions.ask(files, counter)
-    for _, name in answers:
-        counts[name] += 1
-    for name, count in counts.items():
+    book = odl.Book()
+    _, refused = sessions.ask(files, book.take)
+    for name, count in book.counts.items():
         print(f"{name:<10}{count:>8}")
     return sessions.end(refused)
 

@@ -18,9 +18,19 @@ import odl
 import sessions
 
 
+def start_time(label: bytes):
+    """The value of the first START_TIME at the top; None if there is none."""
+    values = (
+        statement.value
+        for statement in odl.read(label)
+        if isinstance(statement, odl.Attribute) and statement.name == "START_TIME"
+    )
+    return next(values, None)
+
+
 def zone(label: bytes) -> str:
     """The zone's text, or "no time"."""
-    value = sessions.start_time(label)
+    value = start_time(label)
     if isinstance(value, odl.Moment):
         return str(value.zone)
     # A bare date is neither of these.

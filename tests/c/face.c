@@ -1,75 +1,12 @@
-/* Calls every function through include/odl.h: the header's numbers, the
- * answers and the lent room against values worked out by hand from the
- * documents. Each number of the header comes back from a real call. */
-#include <stdio.h>
-#include <string.h>
-
-#include "odl.h"
-
-static unsigned passed, failed;
-
-static void check(int holds, const char *what, int line) {
-    if (holds) {
-        passed++;
-    } else {
-        failed++;
-        printf("failed: line %d: %s\n", line, what);
-    }
-}
-
-#define CHECK(holds) check((holds), #holds, __LINE__)
-
-/* The lent room, with bytes on either side of it that are not lent. All of it
- * holds a pattern before each call, so that a byte moved or cleared shows. */
-#define AROUND 64
-#define LONGEST_ROOM 1024
-static uint8_t memory[AROUND + LONGEST_ROOM + AROUND];
-static uint8_t *const room = memory + AROUND;
-
-static uint8_t pattern(size_t at) {
-    return (uint8_t)(at * 37 ^ at >> 8 ^ 0xA5);
-}
-
-/* True if the room holds these bytes and nothing else was touched. */
-static int holds(const void *bytes, size_t length) {
-    size_t at;
-    for (at = 0; at < sizeof memory; at++) {
-        int inside = at >= AROUND && at < AROUND + length;
-        uint8_t expected = inside ? ((const uint8_t *)bytes)[at - AROUND] : pattern(at);
-        if (memory[at] != expected) {
-            return 0;
-        }
-    }
-    return 1;
-}
-
-static int untouched(void) {
-    return holds(NULL, 0);
-}
-
-/* The two results of the last call; every call must set both. */
-#define UNSET ((size_t)-77)
-static size_t place, length;
-
-static void prepare(void) {
-    size_t at;
-    for (at = 0; at < sizeof memory; at++) {
-        memory[at] = pattern(at);
-    }
-    place = length = UNSET;
-}
-
-static int results(size_t wanted_place, size_t wanted_length) {
-    return place == wanted_place && length == wanted_length;
-}
+/* Calls the functions on labels and tables through include/odl.h: the header's
+ * numbers, the answers and the lent room against values worked out by hand from
+ * the documents. Each number of the header comes back from a real call; those
+ * of the session book in book.c. */
+#include "checks.h"
+#include "refusals.h"
 
 /* Which codes each function has answered, one bit for each. */
 static unsigned long read_codes, write_codes, text_codes, find_codes;
-
-static uint8_t noted(unsigned long *codes, uint8_t code) {
-    *codes |= 1ul << code;
-    return code;
-}
 
 static uint8_t reads(const void *label, size_t label_len, size_t room_len) {
     prepare();
@@ -198,46 +135,12 @@ static void check_accepted_reading(void) {
     memcpy(longest + ODL_LONGEST_LABEL - 3, "END", 3);
     CHECK(reads(longest, ODL_LONGEST_LABEL, LONGEST_ROOM) == ODL_ACCEPTED);
     CHECK(results(65535, 3) && holds("\x63\xFF\xFF", 3));
-    CHECK(reads(TOO_LONG, LONGEST_ROOM) == ODL_LABEL_TOO_LONG);
-    CHECK(results(65535, 0) && untouched());
 }
 
-/* A refused label, the name and the number of its code, and the place. */
-struct refusal {
-    const char *label;
-    enum odl_code code;
-    uint8_t number;
-    size_t place;
-};
-
-static void check_refused_readings(void) {
-    static const struct refusal refusals[] = {
-        {"A=& END", ODL_BAD_BYTE, 2, 2},
-        {"A=\"x\x80\" END", ODL_BAD_BYTE, 2, 2},
-        {"A=1 /*/ END", ODL_LEFT_OPEN, 3, 4},
-        {"A='' END", ODL_NO_FORM, 4, 2},
-        {"A=1990-366 END", ODL_PAST_LIMIT, 5, 2},
-        {"A=() END", ODL_MISPLACED, 6, 3},
-        {"OBJECT=X END_OBJECT=Y END", ODL_OTHER_NAME, 7, 20},
-        {"END;", ODL_END_NOT_SET_OFF, 9, 0},
-        {"A=1 ", ODL_ENDS_EARLY, 10, 4},
-    };
-    char nested[81 * 9 + 1] = "";
-    size_t at;
-    for (at = 0; at < sizeof refusals / sizeof *refusals; at++) {
-        const struct refusal *it = &refusals[at];
-        uint8_t code = reads(it->label, strlen(it->label), LONGEST_ROOM);
-        CHECK(code == it->code && code == it->number);
-        CHECK(results(it->place, 0) && untouched());
-    }
-    /* 80 blocks are right, so the fault is at the word of the 81st. */
-    for (at = 0; at < 81; at++) {
-        strcat(nested, "OBJECT=X ");
-    }
-    CHECK(reads(nested, 81 * 9, LONGEST_ROOM) == ODL_TOO_DEEP);
-    CHECK(results(80 * 9, 0) && untouched());
-    CHECK(reads(nested, 80 * 9, LONGEST_ROOM) == ODL_ENDS_EARLY);
-    CHECK(results(80 * 9, 0) && untouched());
+static void check_refused_reading(const struct refusal *it) {
+    uint8_t code = reads(it->label, it->length, LONGEST_ROOM);
+    CHECK(code == it->code && code == it->number);
+    CHECK(results(it->place, 0) && untouched());
 }
 
 static void check_writing(void) {
@@ -534,15 +437,6 @@ static void check_null(void) {
     CHECK(results(0, 0));
 }
 
-/* The bits of these codes; the list ends with 99. */
-static unsigned long bits(const int *codes) {
-    unsigned long all = 0;
-    for (; *codes != 99; codes++) {
-        all |= 1ul << *codes;
-    }
-    return all;
-}
-
 /* Every code that the header says a function has was answered by it above,
  * and no other. */
 static void check_codes_answered(void) {
@@ -559,7 +453,7 @@ static void check_codes_answered(void) {
 int main(void) {
     check_accepted_reading();
     check_row_numbers();
-    check_refused_readings();
+    each_refusal(check_refused_reading);
     check_writing();
     check_written_reals();
     check_refused_reals();
@@ -570,6 +464,5 @@ int main(void) {
     check_names();
     check_null();
     check_codes_answered();
-    printf("%u passed, %u failed\n", passed, failed);
-    return failed != 0;
+    return ended();
 }

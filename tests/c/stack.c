@@ -20,6 +20,7 @@ static uint8_t table[5 * ODL_LONGEST_LABEL];
 static size_t table_len;
 static uint8_t room[5 * ODL_LONGEST_LABEL];
 static size_t row;
+static struct odl_book book;
 static size_t place, length;
 static uint8_t code;
 
@@ -50,6 +51,11 @@ static void *finding(void *unused) {
 
 static void *naming(void *unused) {
     odl_name(label, label_len, table, table_len, row, &place, &length);
+    return unused;
+}
+
+static void *taking(void *unused) {
+    code = odl_take(&book, label, label_len, room, sizeof room, &place, &length);
     return unused;
 }
 
@@ -125,10 +131,20 @@ static void measure(const char *name, const char *shape, void *(*call)(void *), 
     }
 }
 
+/* The label taken into an empty book, and into a full one. */
+static void measure_takings(const char *shape, uint8_t reads_with) {
+    memset(&book, 0, sizeof book);
+    measure("odl_take", shape, taking, reads_with);
+    book.counts[ODL_AT_MONDAY] = ODL_MOST_SESSIONS;
+    measure("odl_take with a full book", shape, taking,
+            reads_with == ODL_ACCEPTED ? ODL_BOOK_FULL : reads_with);
+}
+
 /* All calls over the label as it stands. Rows of the table are a block or an
  * attribute first; the last of it is row 99. */
 static void measure_all(const char *shape, uint8_t reads_with, uint8_t writes_with, size_t text,
                         uint8_t finds_with) {
+    measure_takings(shape, reads_with);
     measure("odl_read", shape, reading, reads_with);
     if (reads_with == ODL_ACCEPTED) {
         memcpy(table, room, length);
@@ -168,6 +184,8 @@ int main(void) {
     /* Four reals take 76 bytes when they are written. */
     fill("A=(", "1E-18,-15E-18,1E17,1E-999,", 800, "1.)END");
     measure_all("many reals", ODL_ACCEPTED, ODL_ACCEPTED, 0, ODL_NAME_ABSENT);
+    fill("", "A=-12.5E-3<M> ", 3000, "START_TIME=9999-365T23:59:59.999999999-12:59 END");
+    measure_takings("a late START_TIME", ODL_ACCEPTED);
     printf("the most stack that a call took: %zu bytes of %d\n", most, PROMISED);
     if (most < 1024) {
         stop("the paint does not tell");

@@ -13,6 +13,7 @@ void _exit(int status);
 struct buffer {
     uint8_t *bytes;
     size_t length;
+    uint8_t lent;
 };
 
 static void take(uint8_t *to, size_t count) {
@@ -49,6 +50,7 @@ static size_t number(const uint8_t **at) {
 static struct buffer buffer_at(const uint8_t **at) {
     struct buffer b;
     uint8_t absent = *(*at)++;
+    b.lent = *(*at)++;
     b.length = number(at);
     b.bytes = absent ? NULL : malloc(b.length + 1);
     if (b.length > 0) {
@@ -71,32 +73,45 @@ static uint8_t answer(int call, size_t row, const struct buffer *b, size_t *firs
     case CALL_NAME:
         odl_name(b[0].bytes, b[0].length, b[1].bytes, b[1].length, row, first, second);
         return 0;
+    case CALL_TAKE:
+        return odl_take((struct odl_book *)b[0].bytes, b[1].bytes, b[1].length, b[2].bytes, b[2].length, first, second);
     default:
         _exit(1);
     }
     return 0;
 }
 
+/* Gives the code, the results and what was lent, in one run of bytes. */
+static void reply(uint8_t code, size_t first, size_t second, const struct buffer *b, int count) {
+    size_t size = ANSWER_HEAD;
+    for (int i = 0; i < count; i++) {
+        size += b[i].lent ? b[i].length : 0;
+    }
+    uint8_t *bytes = malloc(size), *at = bytes + ANSWER_HEAD;
+    bytes[0] = code;
+    memcpy(bytes + 1, &first, 8);
+    memcpy(bytes + 9, &second, 8);
+    for (int i = 0; i < count; i++) {
+        if (b[i].lent && b[i].length > 0) {
+            memcpy(at, b[i].bytes, b[i].length);
+            at += b[i].length;
+        }
+    }
+    give(bytes, size);
+    free(bytes);
+}
+
 static void serve(const uint8_t *at) {
     struct buffer b[MOST_BUFFERS];
     size_t first = (size_t)-1, second = (size_t)-1;
-    int call = *at++;
+    int call = *at++, count = buffers_of[call];
     size_t row = number(&at);
-    for (int i = 0; i < buffers_of[call]; i++) {
+    for (int i = 0; i < count; i++) {
         b[i] = buffer_at(&at);
     }
     uint8_t code = answer(call, row, b, &first, &second);
-    size_t room = lends_room(call) ? b[buffers_of[call] - 1].length : 0;
-    uint8_t *reply = malloc(ANSWER_HEAD + room);
-    reply[0] = code;
-    memcpy(reply + 1, &first, 8);
-    memcpy(reply + 9, &second, 8);
-    if (room > 0) {
-        memcpy(reply + ANSWER_HEAD, b[buffers_of[call] - 1].bytes, room);
-    }
-    give(reply, ANSWER_HEAD + room);
-    free(reply);
-    for (int i = 0; i < buffers_of[call]; i++) {
+    reply(code, first, second, b, count);
+    for (int i = 0; i < count; i++) {
         free(b[i].bytes);
     }
 }

@@ -1,4 +1,4 @@
-/* The five functions of odl.h, each handed to the real library in another
+/* The functions of odl.h, each handed to the real library in another
  * process: one for each thread, started at its first call. */
 #include <stdio.h>
 #include <stdlib.h>
@@ -8,9 +8,11 @@
 #include "calls.h"
 #include "odl.h"
 
+/* A buffer, and where its bytes are handed back: NULL if it is only read. */
 struct buffer {
     const uint8_t *bytes;
     size_t length;
+    uint8_t *back;
 };
 
 static __thread int to_server = -1, from_server = -1;
@@ -77,7 +79,7 @@ static uint8_t *put(uint8_t *to, const void *from, size_t count) {
 static void ask(int call, uint64_t row, const struct buffer *b) {
     uint64_t size = 1 + 8;
     for (int i = 0; i < buffers_of[call]; i++) {
-        size += 1 + 8 + b[i].length;
+        size += 1 + 1 + 8 + b[i].length;
     }
     uint8_t *request = malloc(8 + size), number = (uint8_t)call;
     if (request == NULL) {
@@ -85,15 +87,15 @@ static void ask(int call, uint64_t row, const struct buffer *b) {
     }
     uint8_t *at = put(put(put(request, &size, 8), &number, 1), &row, 8);
     for (int i = 0; i < buffers_of[call]; i++) {
-        uint8_t absent = b[i].bytes == NULL;
+        const uint8_t flags[] = {b[i].bytes == NULL, b[i].back != NULL};
         uint64_t length = b[i].length;
-        at = put(put(put(at, &absent, 1), &length, 8), b[i].bytes, b[i].length);
+        at = put(put(put(at, flags, sizeof flags), &length, 8), b[i].bytes, b[i].length);
     }
     give(request, 8 + size);
     free(request);
 }
 
-static uint8_t hand_on(int call, size_t row, const struct buffer *b, uint8_t *room, size_t *first, size_t *second) {
+static uint8_t hand_on(int call, size_t row, const struct buffer *b, size_t *first, size_t *second) {
     uint8_t head[ANSWER_HEAD];
     uint64_t results[2];
     if (to_server < 0) {
@@ -101,8 +103,10 @@ static uint8_t hand_on(int call, size_t row, const struct buffer *b, uint8_t *ro
     }
     ask(call, row, b);
     take(head, sizeof head);
-    if (lends_room(call)) {
-        take(room, b[buffers_of[call] - 1].length);
+    for (int i = 0; i < buffers_of[call]; i++) {
+        if (b[i].back != NULL) {
+            take(b[i].back, b[i].length);
+        }
     }
     memcpy(results, head + 1, sizeof results);
     *first = results[0];
@@ -112,30 +116,37 @@ static uint8_t hand_on(int call, size_t row, const struct buffer *b, uint8_t *ro
 
 uint8_t odl_read(const uint8_t *label, size_t label_len, uint8_t *table, size_t table_len,
                  size_t *place, size_t *length) {
-    const struct buffer b[] = {{label, label_len}, {table, table_len}};
-    return hand_on(CALL_READ, 0, b, table, place, length);
+    const struct buffer b[] = {{label, label_len, NULL}, {table, table_len, table}};
+    return hand_on(CALL_READ, 0, b, place, length);
 }
 
 uint8_t odl_write(const uint8_t *label, size_t label_len, const uint8_t *table, size_t table_len,
                   uint8_t *out, size_t out_len, size_t *place, size_t *length) {
-    const struct buffer b[] = {{label, label_len}, {table, table_len}, {out, out_len}};
-    return hand_on(CALL_WRITE, 0, b, out, place, length);
+    const struct buffer b[] = {{label, label_len, NULL}, {table, table_len, NULL}, {out, out_len, out}};
+    return hand_on(CALL_WRITE, 0, b, place, length);
 }
 
 uint8_t odl_text(const uint8_t *label, size_t label_len, const uint8_t *table, size_t table_len, size_t row,
                  uint8_t *out, size_t out_len, size_t *place, size_t *length) {
-    const struct buffer b[] = {{label, label_len}, {table, table_len}, {out, out_len}};
-    return hand_on(CALL_TEXT, row, b, out, place, length);
+    const struct buffer b[] = {{label, label_len, NULL}, {table, table_len, NULL}, {out, out_len, out}};
+    return hand_on(CALL_TEXT, row, b, place, length);
 }
 
 uint8_t odl_find(const uint8_t *label, size_t label_len, const uint8_t *table, size_t table_len,
                  const uint8_t *name, size_t name_len, size_t row, size_t *place, size_t *at) {
-    const struct buffer b[] = {{label, label_len}, {table, table_len}, {name, name_len}};
-    return hand_on(CALL_FIND, row, b, NULL, place, at);
+    const struct buffer b[] = {{label, label_len, NULL}, {table, table_len, NULL}, {name, name_len, NULL}};
+    return hand_on(CALL_FIND, row, b, place, at);
 }
 
 void odl_name(const uint8_t *label, size_t label_len, const uint8_t *table, size_t table_len, size_t row,
               size_t *start_of, size_t *end) {
-    const struct buffer b[] = {{label, label_len}, {table, table_len}};
-    hand_on(CALL_NAME, row, b, NULL, start_of, end);
+    const struct buffer b[] = {{label, label_len, NULL}, {table, table_len, NULL}};
+    hand_on(CALL_NAME, row, b, start_of, end);
+}
+
+uint8_t odl_take(struct odl_book *book, const uint8_t *label, size_t label_len, uint8_t *table, size_t table_len,
+                 size_t *place, size_t *length) {
+    uint8_t *counts = (uint8_t *)book;
+    const struct buffer b[] = {{counts, sizeof *book, counts}, {label, label_len, NULL}, {table, table_len, table}};
+    return hand_on(CALL_TAKE, 0, b, place, length);
 }

@@ -19,10 +19,11 @@ pub enum Code {
     WrittenTooLong = 13,
     NameAbsent = 14,
     NoSuchRow = 15,
+    BookFull = 16,
 }
 
 impl Code {
-    const ALL: [Code; 15] = [
+    const ALL: [Code; 16] = [
         Code::LabelTooLong,
         Code::BadByte,
         Code::LeftOpen,
@@ -38,6 +39,7 @@ impl Code {
         Code::WrittenTooLong,
         Code::NameAbsent,
         Code::NoSuchRow,
+        Code::BookFull,
     ];
 
     /// The code of this number; none for 0, which is no refusal.
@@ -67,6 +69,7 @@ impl Code {
             Code::WrittenTooLong => "the written label would be over 65,535 bytes",
             Code::NameAbsent => "no attribute of that name",
             Code::NoSuchRow => "not the offset of a row that is asked for",
+            Code::BookFull => "the book is full",
         }
     }
 }
@@ -90,7 +93,7 @@ impl Error {
         match code {
             0 => Ok(()),
             _ => {
-                let code = Code::from_number(code).expect("the library has fifteen codes");
+                let code = Code::from_number(code).expect("the library has these codes");
                 Err(Error { code, place })
             }
         }

@@ -162,10 +162,16 @@ impl std::iter::FusedIterator for Rows<'_, '_> {}
 
 /// Reads a label.
 pub fn read(label: &[u8]) -> Result<Label<'_>, Error> {
+    read_by(label, |room| raw::read(label, room))
+}
+
+/// The label with the table that this call leaves in its room.
+pub(crate) fn read_by(
+    label: &[u8],
+    call: impl FnMut(&mut [u8]) -> Answer,
+) -> Result<Label<'_>, Error> {
     // Most tables are shorter than their label, and the rest ask for more.
-    let table = grown(label.len().min(LONGEST_LABEL), |room| {
-        raw::read(label, room)
-    })?;
+    let table = grown(label.len().min(LONGEST_LABEL), call)?;
     Ok(Label {
         bytes: label,
         table: Table(table),
@@ -210,7 +216,7 @@ pub fn relabel(label: &[u8]) -> Result<Vec<u8>, Error> {
 }
 
 /// Calls with some room, and again with the room needed if that was too short.
-fn grown(first: usize, call: impl Fn(&mut [u8]) -> Answer) -> Result<Vec<u8>, Error> {
+fn grown(first: usize, mut call: impl FnMut(&mut [u8]) -> Answer) -> Result<Vec<u8>, Error> {
     let mut room = vec![0; first];
     let mut answer = call(&mut room);
     if answer.code == Code::RoomTooShort as u8 {

@@ -1,9 +1,10 @@
 //! The library's own calls: lent room, and numbers for answers.
 //!
-//! Any bytes may be handed in. The lent room is untouched beyond the reported
-//! length, and on every code but 0 all of it.
+//! Any bytes may be handed in, and any counts of a book. The lent room is
+//! untouched beyond the reported length, and on every code but 0 all of it and
+//! the book.
 
-/// What a reading, a writing or a text reassembly reports.
+/// What a reading, a writing, a text reassembly or a taking reports.
 #[derive(Debug, Clone, Copy, PartialEq, Eq)]
 pub struct Answer {
     /// 0, or why there is no result; see [`Code`](crate::Code).
@@ -25,7 +26,17 @@ pub struct Found {
     pub at: usize,
 }
 
+/// A session book as the library has it; all zeros is the empty one.
+#[derive(Debug, Clone, Copy, PartialEq, Eq, Hash, Default)]
+#[repr(C)]
+pub struct Book {
+    /// Sessions on each weekday, Monday first, and undated ones last.
+    pub counts: [u32; 8],
+}
+
 mod face {
+    use super::Book;
+
     extern "C" {
         pub fn odl_read(
             label: *const u8,
@@ -76,12 +87,21 @@ mod face {
             start: *mut usize,
             end: *mut usize,
         );
+        pub fn odl_take(
+            book: *mut Book,
+            label: *const u8,
+            label_len: usize,
+            table: *mut u8,
+            table_len: usize,
+            place: *mut usize,
+            length: *mut usize,
+        ) -> u8;
     }
 }
 
 // In each call below the pointers and lengths are those of live slices, the
-// lent room is borrowed alone, and the results are places of this function;
-// the library keeps none of them.
+// lent room and the book are borrowed alone, and the results are places of this
+// function; the library keeps none of them.
 
 /// Reads a label into the lent table room.
 pub fn read(label: &[u8], table: &mut [u8]) -> Answer {
@@ -188,4 +208,26 @@ pub fn name(label: &[u8], table: &[u8], row: usize) -> (usize, usize) {
         )
     };
     (start, end)
+}
+
+/// Takes a label into the book, and its table into the lent room.
+pub fn take(book: &mut Book, label: &[u8], table: &mut [u8]) -> Answer {
+    let (mut place, mut length) = (0, 0);
+    // SAFETY: as said above.
+    let code = unsafe {
+        face::odl_take(
+            book,
+            label.as_ptr(),
+            label.len(),
+            table.as_mut_ptr(),
+            table.len(),
+            &mut place,
+            &mut length,
+        )
+    };
+    Answer {
+        code,
+        place,
+        length,
+    }
 }

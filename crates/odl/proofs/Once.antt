@@ -7,9 +7,11 @@ use Rattle.rules.specs.Modes.{base}
 use Rattle.rules.specs.Reading.{Said, Answered}
 use Rattle.rules.specs.Writing.{Writes}
 use Rattle.rules.specs.Asked.{says, Texted, Sought, Viewed}
+use Rattle.rules.specs.Book.{Book, book, Takes}
 use Rattle.rules.proofs.Reading.Reader.{answered-unique}
 use Rattle.rules.proofs.Written.Outcome.{writes-once}
 use Rattle.rules.proofs.Tables.Asked.{texted-once, viewed-once, sought-once}
+use Rattle.rules.proofs.Book.Takings.{taken-once}
 use Rattle.classes.specs.Places.{asSpan}
 
 numbers : {c p n c′ p′ n′ : ℕ} → says c p n ≡ says c′ p′ n′ → (c ≡ c′) × (p ≡ p′) × (n ≡ n′)
@@ -36,3 +38,10 @@ pub name-once : {label lent : List ℕ} {row x y x′ y′ : ℕ} → Viewed lab
 name-once {label} {lent} {row} a b =
     let u = viewed-once label lent row a b in
     (ap (λ (s : rule.Span). s .from) u, ap (λ (s : rule.Span). s .upto) u)
+
+module _ {c p n c′ p′ n′ : ℕ} where
+  pub take-once : {before after after′ label room last last′ : List ℕ} → Takes (book before) label room (says c p n) (book after) last →
+      Takes (book before) label room (says c′ p′ n′) (book after′) last′ → ((c ≡ c′) × (p ≡ p′) × (n ≡ n′)) × (after ≡ after′) × (last ≡ last′)
+  take-once {before} {label = label} {room = room} a b =
+      let u = taken-once (book before) label room a b in
+      (numbers (u .0), ap (λ (x : Book). x .counts) (u .1), u .2)

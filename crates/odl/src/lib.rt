@@ -1,5 +1,7 @@
 // The C face of the library: each function thin over a proved one, under the name that include/odl.h declares. Code, place and length
 // are set on every call, and the contract says of them and of the lent room what the rules say.
+use book::Book;
+use book::take;
 use queries::find;
 use queries::name_span;
 use queries::text;
@@ -9,6 +11,8 @@ ghost use Rattle.rules.specs.Modes.{base};
 ghost use Rattle.rules.specs.Reading.{Answered};
 ghost use Rattle.rules.specs.Writing.{Writes};
 ghost use Rattle.rules.specs.Asked.{says, Texted, Sought, Viewed};
+ghost use Rattle.rules.specs.Book as rule;
+ghost use Rattle.rules.specs.Book.{Takes};
 ghost use Rattle.classes.specs.Places.{asSpan};
 
 #[no_mangle]
@@ -89,4 +93,24 @@ pub extern "C" fn odl_name(
     let s = name_span(label, table, row);
     *start = s.start;
     *end = s.end;
+}
+
+#[no_mangle]
+pub extern "C" fn odl_take(
+    book: &mut [u32; 8],
+    label: &[u8],
+    table: &mut [u8],
+    place: &mut usize,
+    length: &mut usize,
+) -> u8
+    ensures { λ c. ⌜ Takes (rule.book (now (book .entry))) (now (label .entry)) (now (table .entry)) (says c (now (place .exit)) (now (length .exit))) (rule.book (now (book .exit))) (now (table .exit)) ⌝ }
+{
+    let before = *book;
+    let t = take(Book { counts: before }, label, table);
+    let kept = t.book;
+    let after = kept.counts;
+    *book = after;
+    *place = t.place;
+    *length = t.length;
+    t.code
 }

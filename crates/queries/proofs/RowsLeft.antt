@@ -7,14 +7,14 @@ use lib.ListN.{length, drop, length-append, length-drop, drop-of-length-le}
 use lib.Seq.{drop-append-seam, drop-drop}
 use Rattle.rules.specs.Data as rule
 use Rattle.rules.specs.Table.{encode, table}
-use Rattle.rules.specs.Proper.{Each, none, one, Holds, Ruled, proper-rows, is-proper}
+use Rattle.rules.specs.Proper.{Each, none, one, Ruled, proper-rows, is-proper}
 use Rattle.rules.specs.Reading.{longest}
 use Rattle.rules.specs.Asked.{From, here, later}
-use Rattle.rules.proofs.Machine.Limits.{Codes, Valued}
+use Rattle.rules.proofs.Machine.Limits.{Codes}
 use Rattle.rules.proofs.Machine.Decoding.{decode}
 use Rattle.rules.proofs.Tables.DecodeComplete.{nothing-got}
 use Rattle.rules.proofs.Tables.Proper.{proper}
-use Rattle.rules.proofs.Tables.Once.{codes}
+use Rattle.rules.proofs.Tables.Once.{all-codes}
 use Rattle.rules.proofs.Tables.Judge.{encode-size}
 use Rattle.rules.proofs.Machine.Queries.{fromRow}
 use Rattle.rows.specs.Rows.{rowOf}
@@ -129,11 +129,7 @@ first-none no-first a f = refl
 
 -- ---- a proper table
 
-each-codes : (given : List ℕ) → length given < 65536 → (rs : List rule.Row) → Each Valued rs → Each (Holds given) rs → Each Codes rs
-each-codes given l [] none none = none
-each-codes given l (r ∷ rs) (one v vs) (one h hs) = one (codes given l r v h) (each-codes given l rs vs hs)
-
 pub left-proper : (given lent : List ℕ) (rs : List rule.Row) → length given ≤ longest → Ruled given lent (proper-rows rs) → TableFrom lent 0 rs
 left-proper given lent rs h (is-proper e p) =
     let a = proper .0 p in
-    record { bytes = e; within = omega arith; codes = each-codes given (omega arith) rs (a .values) (a .spans) }
+    record { bytes = e; within = omega arith; codes = all-codes given (omega arith) rs (a .values) (a .spans) }

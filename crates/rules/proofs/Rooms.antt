@@ -33,6 +33,11 @@ pub refusal-some : {m : Mode} {l : List ℕ} {c i : ℕ} → Reads m l (refused 
 refusal-some (too-long h) = omega arith
 refusal-some {m} (read h j) = omega (arith, refusal-given m j .0 .from)
 
+-- and at most 10
+pub refusal-most : {m : Mode} {l : List ℕ} {c i : ℕ} → Reads m l (refused c i) → c ≤ 10
+refusal-most (too-long h) = omega arith
+refusal-most {m} (read h j) = refusal-given m j .0 .upto
+
 module _ {m : Mode} {l room : List ℕ} where
   -- on refusal all of the room is as it was
   pub refused-reading : {s : Said} {r : List ℕ} → Answered m l room s r → (s .code ≡ 0 → ⊥) → r ≡ room

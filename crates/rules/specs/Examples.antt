@@ -11,6 +11,7 @@ use Rattle.rules.specs.Table.{table}
 use Rattle.rules.specs.Reading.{Outcome, accepted, refused, Reads, Said, Answered, filled}
 use Rattle.rules.specs.Writing.{Writes}
 use Rattle.rules.specs.Asked.{says, Texted, Viewed, Sought}
+use Rattle.rules.specs.Book.{Book, book, empty, Takes, Session}
 
 -- an input, and what a reading of it comes to
 pub record Example : Type 0 where
@@ -75,6 +76,10 @@ pub data Call : Type 0 where
   looks-up : List ℕ → List ℕ → List ℕ → ℕ → Said → Call
   -- a label, a table and the offset of a row; the span that is handed back
   views : List ℕ → List ℕ → ℕ → Span → Call
+  -- a book, a label and a room; the book after
+  takes : Book → List ℕ → List ℕ → Said → Book → List ℕ → Call
+  -- a label, and the number of the counter that its session goes under
+  counts : String → ℕ → Call
   -- a label, and the label that is written of its table
   relabels : List ℕ → List ℕ → Call
 
@@ -116,7 +121,15 @@ abbrev pub group-table : List ℕ
 group-table =
     5 ∷ 0 ∷ 6 ∷ 0 ∷ 7 ∷ 1 ∷ 0 ∷ 8 ∷ 0 ∷ 9 ∷ (integer-of 1 ++ (6 ∷ 1 ∷ 0 ∷ 22 ∷ 0 ∷ 23 ∷ (integer-of 2 ++ end-at 29)))
 
--- what no theorem pins, and document 02 §2, §4 and §6, worked out by hand from the papers
+-- the rows of an attribute whose name is the label's first ten bytes, and of 1979-07-08
+abbrev pub start-on-sunday : List ℕ
+start-on-sunday = 1 ∷ 0 ∷ 0 ∷ 0 ∷ 10 ∷ 12 ∷ 1 ∷ 7 ∷ 187 ∷ 7 ∷ 8 ∷ 0 ∷ 0 ∷ 0 ∷ 0 ∷ 0 ∷ 0 ∷ 0 ∷ 0 ∷ 0 ∷ 0 ∷ []
+
+-- a book with sessions on Monday, on Sunday, and undated ones
+abbrev pub sessions : ℕ → ℕ → ℕ → Book
+sessions monday sunday undated = book (monday ∷ 0 ∷ 0 ∷ 0 ∷ 0 ∷ 0 ∷ sunday ∷ undated ∷ [])
+
+-- what no theorem pins, and document 02 §1, §2, §4 and §6, worked out by hand from the papers
 abbrev pub calls : List Call
 calls =
     -- a comment runs to its `*/`, and the rest of that line is ignored: the first END is no element
@@ -174,6 +187,37 @@ calls =
     ∷ writes (ascii "A=10:00 END") (attribute-A ++ (seventh 2 ++ end-at 11)) (before 2) (says 12 5 0) (before 2)
     -- document 02 §6: no zone, Z and `+0` are written alike
     ∷ relabels (ascii "A=(10:00,10:00z,10:00+0,10:00-00:30) END") (ascii "A = (10:00:00Z, 10:00:00Z, 10:00:00Z, 10:00:00-00:30)\r\nEND\r\n")
+    -- document 02 §1: a session counts under the weekday of the date as written, the day of year too; 1979-07-08 is a Sunday
+    ∷ takes (sessions 5 6 7) (ascii "START_TIME=1979-07-08 END") (before 25) (says 0 25 24) (sessions 5 7 7) (start-on-sunday ++ (end-at 25 ++ before 1))
+    ∷ takes (sessions 5 6 7) (ascii "Start_Time=1979-189 END") (before 24) (says 0 23 24) (sessions 5 7 7) (start-on-sunday ++ end-at 23)
+    -- an empty book is one of eight zeros, and the sum 999,999 lets one in
+    ∷ takes empty (ascii "END") (before 4) (says 0 3 3) (sessions 0 0 1) (end-at 3 ++ before 1)
+    ∷ takes (sessions 999999 0 0) (ascii "START_TIME=1979-07-08 END") (before 24) (says 0 25 24) (sessions 999999 1 0) (start-on-sunday ++ end-at 25)
+    -- then 16, book full; before it the reader's own refusals, 11 among them; book and room unchanged
+    ∷ takes (sessions 1000000 0 0) (ascii "START_TIME=1979-07-08 END") (before 24) (says 16 0 0) (sessions 1000000 0 0) (before 24)
+    ∷ takes (sessions 1000000 0 0) (ascii "START_TIME=1979-07-08 END") (before 23) (says 11 25 24) (sessions 1000000 0 0) (before 23)
+    ∷ takes (sessions 1000000 0 0) (ascii "START_TIME=1979-07-08") (before 24) (says 10 21 0) (sessions 1000000 0 0) (before 24)
+    ∷ takes (sessions 5 6 7) (ascii "START_TIME=1979-07-08") (before 24) (says 10 21 0) (sessions 5 6 7) (before 24)
+    ∷ takes (sessions 5 6 7) (ascii "START_TIME=1979-07-08 END") (before 23) (says 11 25 24) (sessions 5 6 7) (before 23)
+    ∷ takes (sessions 1 2 999997) (ascii "END") (before 3) (says 16 0 0) (sessions 1 2 999997) (before 3)
+    ∷ takes (sessions 0 4294967295 4294967295) (ascii "END") (before 3) (says 16 0 0) (sessions 0 4294967295 4294967295) (before 3)
+    -- the offset is not applied; the first top-level START_TIME; a single value with a date
+    ∷ counts "START_TIME=1979-07-08T23:30-12 END" 7
+    ∷ counts "START_TIME=1979-07-08T00:30+12 END" 7
+    ∷ counts "START_TIME=1979-07-09 START_TIME=1979-07-08 END" 1
+    ∷ counts "START_TIME=10:00 START_TIME=1979-07-08 END" 8
+    ∷ counts "OBJECT=A START_TIME=1979-07-09 END_OBJECT START_TIME=1979-07-08 END" 7
+    ∷ counts "OBJECT=A START_TIME=1979-07-08 END_OBJECT END" 8
+    ∷ counts "GROUP=START_TIME START_TIME=1979-07-08 END_GROUP END" 8
+    ∷ counts "^START_TIME=1979-07-08 START_TIMES=1979-07-08 END" 8
+    ∷ counts "START_TIME=(1979-07-08) END" 8
+    ∷ counts "START_TIME={1979-07-08} END" 8
+    ∷ counts "START_TIME=\"1979-07-08\" END" 8
+    -- leap days, and the first and the last day of the calendar
+    ∷ counts "START_TIME=2000-02-29 END" 2
+    ∷ counts "START_TIME=1900-03-01 END" 4
+    ∷ counts "START_TIME=0001-01-01 END" 1
+    ∷ counts "START_TIME=9999-12-31 END" 5
     -- the paper's example of relabel, its real as document 02 §4 writes it
     ∷ relabels (ascii "object = cam /* rig 4 */ ignored\n start = 1990-158T15:24:12\n hold = 1.50 <sec**1>\nend_object\nEND\n")
     (ascii "OBJECT = CAM\r\n  START = 1990-06-07T15:24:12Z\r\n  HOLD = 1.5 <SEC>\r\nEND_OBJECT = CAM\r\nEND\r\n")
@@ -194,6 +238,8 @@ CallHolds (writes label lent room s after) = Writes label lent room s after
 CallHolds (takes-text label lent row room s after) = Texted label lent row room s after
 CallHolds (looks-up label lent name row s) = Sought label lent name row s
 CallHolds (views label lent row p) = Viewed label lent row p
+CallHolds (takes b label room s b′ after) = Takes b label room s b′ after
+CallHolds (counts label n) = Session (ascii label) n
 CallHolds (relabels label after) = Relabelled label after
 
 -- and of all

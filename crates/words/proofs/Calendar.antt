@@ -1,5 +1,5 @@
 -- The calendar: its formulas, checked month by month, and the day of a year.
-use Prim.Native.Nat.{ℕ, zero, suc, _+_, _-_, _*_, _/_, _%_, _≤_, _<_, min}
+use Prim.Native.Nat.{ℕ, suc, _+_, _-_, _*_, _/_, _%_, _≤_, _<_, min}
 use mathlib.Core.Bool.{Bool, true, false, cond, _&&_, _||_, and-false}
 use mathlib.Core.Option.{none, some}
 use mathlib.Core.Path.{_≡_, refl, sym, ap, _∙_}
@@ -11,6 +11,7 @@ use lib.ListN.{getD, take, drop, List·getD-eq-default}
 use lib.Seq.{split-at}
 use Rattle.rules.specs.Values.{number, leap, monthLength, nthDay, dayOf}
 use Rattle.rules.proofs.Words.Runs.{both}
+use Rattle.rules.proofs.Tables.Tests.{upto, upto-either}
 use Rattle.classes.specs.Places.{part}
 use Rattle.forms.specs.declared.Span.{Span}
 use Rattle.forms.specs.declared.Date.{Date}
@@ -19,25 +20,6 @@ use Rattle.forms.specs.Forms.{on, dateOf}
 use Rattle.words.specs.declared.days.InCalendar.{InCalendar}
 use Rattle.words.specs.declared.days.InCalendar.the-variants.{Missing, On}
 use Rattle.words.specs.Days.{months, lengthIn, total, daysBefore, Before, dayIfAny, YearDay, MonthDay, yearOf}
-
--- ---- a test of every number below a bound
-
-abbrev pub check : (ℕ → Bool) → ℕ → Bool
-check p zero = true
-check p (suc k) = p k && check p k
-
-pub upto : (p : ℕ → Bool) (k : ℕ) → check p k ≡ true → (m : ℕ) → m < k → p m ≡ true
-upto p zero h m l = absurd (omega arith)
-upto p (suc k) h m l = go (upto p k (both (p k) (check p k) h .1) m) (eqb m k) refl
-  where
-    go : (m < k → p m ≡ true) → (t : Bool) → eqb m k ≡ t → p m ≡ true
-    go ih true e = ap p (eqb-true m k e) ∙ both (p k) (check p k) h .0
-    go ih false e = let n = eqb-false m k e in ih (omega arith)
-
--- of a leap year and of a plain one
-each-year : (p : Bool → ℕ → Bool) (k : ℕ) → check (p true) k ≡ true → check (p false) k ≡ true → (t : Bool) (m : ℕ) → m < k → p t m ≡ true
-each-year p k h g true m l = upto (p true) k h m l
-each-year p k h g false m l = upto (p false) k g m l
 
 -- of a month that the test does not leave out
 unless : (a b : Bool) → (a || b) ≡ true → a ≡ false → b ≡ true
@@ -59,7 +41,7 @@ past-december y m h =
 
 pub in-turns : (y m : ℕ) → (m ≡ 0 → ⊥) → m ≤ 12 → (m ≡ 2 → ⊥) → turns m ≡ monthLength y m
 in-turns y m z l n =
-    let h = each-year (λ t i. (eqb i 0 || eqb i 2) || eqb (turns i) (lengthIn t i)) 13 refl refl (leap y) m (omega arith) in
+    let h = upto-either (λ t i. (eqb i 0 || eqb i 2) || eqb (turns i) (lengthIn t i)) 13 refl refl (leap y) m (omega arith) in
     eqb-true (turns m) (monthLength y m) (unless (eqb m 0 || eqb m 2) (eqb (turns m) (monthLength y m)) h (rw (ne-eqb m 0 z, ne-eqb m 2 n)))
 
 pub leap-february : (y m : ℕ) (t : Bool) → m ≡ 2 → t ≡ leap y → t ≡ true → 29 ≡ monthLength y m
@@ -75,7 +57,7 @@ passed t i = total t (take i months)
 
 about : (t : Bool) (i : ℕ) → i < 12 → (passed t i + 31 ≤ 31 * suc i) × (31 * suc i ≤ passed t i + 38)
 about t i l =
-    let b = both (leb (passed t i + 31) (31 * suc i)) (leb (31 * suc i) (passed t i + 38)) (each-year (λ u j. leb (passed u j + 31) (31 * suc j) && leb (31 * suc j) (passed u j + 38)) 12 refl refl t i l) in
+    let b = both (leb (passed t i + 31) (31 * suc i)) (leb (31 * suc i) (passed t i + 38)) (upto-either (λ u j. leb (passed u j + 31) (31 * suc j) && leb (31 * suc j) (passed u j + 38)) 12 refl refl t i l) in
     (leb-true (passed t i + 31) (31 * suc i) (b .0), leb-true (31 * suc i) (passed t i + 38) (b .1))
 
 -- whatever gives the days before a month keeps the bounds
@@ -93,7 +75,7 @@ pub before-march : (y m : ℕ) → 1 ≤ m → m < 3 → Before y m (asIf30 m)
 unfolding daysBefore
 before-march y m h l =
     before-is y m (asIf30 m) h (omega arith)
-    (eqb-true (asIf30 m) (passed (leap y) (m - 1)) (each-year (λ t i. eqb (asIf30 i) (passed t (i - 1))) 3 refl refl (leap y) m l))
+    (eqb-true (asIf30 m) (passed (leap y) (m - 1)) (upto-either (λ t i. eqb (asIf30 i) (passed t (i - 1))) 3 refl refl (leap y) m l))
 
 -- what February lacks of them
 abbrev lacking : Bool → ℕ
@@ -101,7 +83,7 @@ lacking t = cond t 1 2
 
 from-march : (t : Bool) (m : ℕ) → 3 ≤ m → m ≤ 12 → asIf30 m - lacking t ≡ passed t (m - 1)
 from-march t m h k =
-    let q = each-year (λ u i. ltb i 3 || eqb (asIf30 i - lacking u) (passed u (i - 1))) 13 refl refl t m (omega arith) in
+    let q = upto-either (λ u i. ltb i 3 || eqb (asIf30 i - lacking u) (passed u (i - 1))) 13 refl refl t m (omega arith) in
     eqb-true (asIf30 m - lacking t) (passed t (m - 1)) (unless (ltb m 3) (eqb (asIf30 m - lacking t) (passed t (m - 1))) q (le-ltb m 3 h))
 
 pub leap-before : (y m : ℕ) (t : Bool) → 3 ≤ m → m ≤ 12 → t ≡ leap y → t ≡ true → Before y m (asIf30 m - 1)
@@ -114,10 +96,10 @@ plain-before y m t h k e f = before-is y m (asIf30 m - 2) (omega arith) k (rw (s
 
 -- a month has 28 days at least, and the next month begins behind it
 after : (t : Bool) (i : ℕ) → i < 11 → passed t (suc i) ≡ passed t i + lengthIn t (suc i)
-after t i l = eqb-true (passed t (suc i)) (passed t i + lengthIn t (suc i)) (each-year (λ u j. eqb (passed u (suc j)) (passed u j + lengthIn u (suc j))) 11 refl refl t i l)
+after t i l = eqb-true (passed t (suc i)) (passed t i + lengthIn t (suc i)) (upto-either (λ u j. eqb (passed u (suc j)) (passed u j + lengthIn u (suc j))) 11 refl refl t i l)
 
 short : (t : Bool) (i : ℕ) → i < 12 → 28 ≤ lengthIn t (suc i)
-short t i l = leb-true 28 (lengthIn t (suc i)) (each-year (λ u j. leb 28 (lengthIn u (suc j))) 12 refl refl t i l)
+short t i l = leb-true 28 (lengthIn t (suc i)) (upto-either (λ u j. leb 28 (lengthIn u (suc j))) 12 refl refl t i l)
 
 whole-year : (t : Bool) → total t months ≡ passed t 11 + 31
 whole-year true = refl

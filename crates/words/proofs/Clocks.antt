@@ -33,7 +33,7 @@ use Rattle.words.specs.Times.{nanos, nanosOf, withOffset, InZone, Timed,
 use Rattle.rules.proofs.Tables.ElementLimits.{onto-bound}
 use Rattle.rules.proofs.Tables.Numbers.{pow-positive}
 use Rattle.rules.proofs.Written.PrintedMoments.{significant-all}
-use Rattle.words.proofs.Calendar.{check, upto}
+use Rattle.rules.proofs.Tables.Tests.{check, upto}
 
 -- ---- nanoseconds
 

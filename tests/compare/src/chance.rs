@@ -1,8 +1,9 @@
 //! Random cases, and runs of many of them.
 
-use crate::{Answer, Call, Case};
+use crate::books::{self, Taking};
+use crate::{history, Answer, Call, Case};
 use odl_model::random::{self, Random, TableCase};
-use odl_model::{dates, reals, rows, zones};
+use odl_model::{dates, reals, rows, sessions, zones};
 use std::collections::BTreeMap;
 use std::ops::RangeInclusive;
 use std::sync::atomic::{AtomicBool, AtomicU64, Ordering};
@@ -30,6 +31,12 @@ pub struct Tally {
     /// was also read again, and each table also written with other marks: see
     /// `Case::check`.
     pub zones: BTreeMap<(Call, zones::Case), u64>,
+    /// Each case of the session book, of labels that were taken.
+    pub sessions: BTreeMap<sessions::Case, u64>,
+    /// Each case of books and rooms, of all takings.
+    pub takings: BTreeMap<Taking, u64>,
+    /// Each code of the takings of histories.
+    pub histories: BTreeMap<u8, u64>,
     /// Tables that the writer refused at a row of no kind, by the run of
     /// `NO_KINDS` that it is of.
     pub no_kinds: [u64; NO_KINDS.len()],
@@ -60,30 +67,35 @@ impl Tally {
         for zone in zone_cases(case, code) {
             *self.zones.entry((case.call, zone)).or_default() += 1;
         }
+        for session in session_cases(case, code) {
+            *self.sessions.entry(session).or_default() += 1;
+        }
+        for taking in books::cases(case, answer) {
+            *self.takings.entry(taking).or_default() += 1;
+        }
         if let Some(run) = run_of_no_kinds(case, answer) {
             self.no_kinds[run] += 1;
         }
     }
 
     fn add(&mut self, other: Tally) {
-        for (key, count) in other.codes {
-            *self.codes.entry(key).or_default() += count;
-        }
-        for (key, count) in other.rows {
-            *self.rows.entry(key).or_default() += count;
-        }
-        for (key, count) in other.reals {
-            *self.reals.entry(key).or_default() += count;
-        }
-        for (key, count) in other.dates {
-            *self.dates.entry(key).or_default() += count;
-        }
-        for (key, count) in other.zones {
-            *self.zones.entry(key).or_default() += count;
-        }
+        add(&mut self.codes, other.codes);
+        add(&mut self.rows, other.rows);
+        add(&mut self.reals, other.reals);
+        add(&mut self.dates, other.dates);
+        add(&mut self.zones, other.zones);
+        add(&mut self.sessions, other.sessions);
+        add(&mut self.takings, other.takings);
+        add(&mut self.histories, other.histories);
         for (sum, count) in self.no_kinds.iter_mut().zip(other.no_kinds) {
             *sum += count;
         }
+    }
+}
+
+fn add<Key: Ord>(sums: &mut BTreeMap<Key, u64>, counts: BTreeMap<Key, u64>) {
+    for (key, count) in counts {
+        *sums.entry(key).or_default() += count;
     }
 }
 
@@ -127,6 +139,13 @@ fn zone_cases(case: &Case, code: u8) -> Vec<zones::Case> {
     }
 }
 
+fn session_cases(case: &Case, code: u8) -> Vec<sessions::Case> {
+    match (case.call, code) {
+        (Call::Take, 0) => sessions::in_label(&case.label),
+        _ => Vec::new(),
+    }
+}
+
 fn run_of_no_kinds(case: &Case, (code, place, _): Answer) -> Option<usize> {
     let kind = case
         .table
@@ -135,8 +154,19 @@ fn run_of_no_kinds(case: &Case, (code, place, _): Answer) -> Option<usize> {
     NO_KINDS.iter().position(|run| run.contains(kind))
 }
 
-/// The case of this number in the run of this seed.
-pub fn case(seed: u64, number: u64) -> Case {
+/// The numbers of a run that have a history beside their case: one in so many.
+const HISTORIES: u64 = 500;
+
+/// The history of this number in the run of this seed, if it has one: how often
+/// each code was answered, or what differs.
+pub fn check_history(seed: u64, number: u64) -> Result<BTreeMap<u8, u64>, String> {
+    match number % HISTORIES {
+        0 => history::check(&mut random_of(seed, !number)),
+        _ => Ok(BTreeMap::new()),
+    }
+}
+
+fn random_of(seed: u64, number: u64) -> Random {
     let mut random = Random::new(
         seed.wrapping_mul(0xD6E8_FEB8_6659_FD93)
             .wrapping_add(number),
@@ -145,13 +175,20 @@ pub fn case(seed: u64, number: u64) -> Case {
     for _ in 0..4 {
         random.bits();
     }
-    let mut case = match random.below(23) {
+    random
+}
+
+/// The case of this number in the run of this seed.
+pub fn case(seed: u64, number: u64) -> Case {
+    let mut random = random_of(seed, number);
+    let mut case = match random.below(30) {
         0..=8 => Case::read(&random::label(&mut random), 0),
         9 => at_the_written_limit(&mut random),
         10..=13 => over_table(&mut random, Call::Write),
         14..=16 => over_table(&mut random, Call::Text),
         17..=19 => over_table(&mut random, Call::Find),
         20 => over_table(&mut random, Call::Name),
+        21..=27 => return books::taking(&mut random),
         _ => Case::over(Call::Rewrite, &rewritten_label(&mut random), &[]),
     };
     case.room = room(&mut random, case.room_needed());
@@ -200,12 +237,9 @@ fn over_table(random: &mut Random, call: Call) -> Case {
         name = odd_name(random, name);
     }
     Case {
-        call,
-        label,
-        table,
         name,
         row,
-        room: 0,
+        ..Case::over(call, &label, &table)
     }
 }
 
@@ -326,11 +360,14 @@ pub fn run(seed: u64, until: Until) -> Result<Tally, String> {
                 return Ok(tally);
             }
             let case = case(seed, number);
-            let answer = case.check().map_err(|difference| {
+            let checked = case.check();
+            let checked = checked.and_then(|answer| Ok((answer, check_history(seed, number)?)));
+            let (answer, codes) = checked.map_err(|difference| {
                 failed.store(true, Ordering::Relaxed);
                 format!("seed {seed}, case {number}: {difference}")
             })?;
             tally.count(&case, answer);
+            add(&mut tally.histories, codes);
         }
     };
     let workers = std::thread::available_parallelism().map_or(1, usize::from);

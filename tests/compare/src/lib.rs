@@ -1,9 +1,13 @@
 //! Holds the library against the model: one call, the same bytes handed to
 //! both, and everything that comes back compared.
 
+pub mod books;
 pub mod chance;
+pub mod days;
+pub mod history;
 
 use odl::raw;
+use odl_model::book::{self, Book};
 use odl_model::zones;
 
 #[derive(Debug, Clone, Copy, PartialEq, Eq, PartialOrd, Ord)]
@@ -15,6 +19,7 @@ pub enum Call {
     Text,
     Find,
     Name,
+    Take,
 }
 
 /// A call and all that is handed to it. What the call does not take is empty.
@@ -25,6 +30,8 @@ pub struct Case {
     pub table: Vec<u8>,
     pub name: Vec<u8>,
     pub row: usize,
+    /// The counters before the call.
+    pub book: Book,
     /// Length of the lent room.
     pub room: usize,
 }
@@ -41,6 +48,14 @@ impl Case {
         }
     }
 
+    pub fn take(book: Book, label: &[u8], room: usize) -> Case {
+        Case {
+            book,
+            room,
+            ..Case::over(Call::Take, label, &[])
+        }
+    }
+
     /// A call over a label and a table, with the rest still empty.
     pub fn over(call: Call, label: &[u8], table: &[u8]) -> Case {
         Case {
@@ -49,11 +64,12 @@ impl Case {
             table: table.to_vec(),
             name: Vec::new(),
             row: 0,
+            book: [0; 8],
             room: 0,
         }
     }
 
-    fn library(&self, room: &mut [u8]) -> Answer {
+    fn library(&self, book: &mut raw::Book, room: &mut [u8]) -> Answer {
         let Case { label, table, .. } = self;
         let answer = match self.call {
             Call::Read => raw::read(label, room),
@@ -74,11 +90,12 @@ impl Case {
                 let (start, end) = raw::name(label, table, self.row);
                 return (0, start, end);
             }
+            Call::Take => raw::take(book, label, room),
         };
         (answer.code, answer.place, answer.length)
     }
 
-    fn model(&self, room: &mut [u8]) -> Answer {
+    fn model(&self, book: &mut raw::Book, room: &mut [u8]) -> Answer {
         let Case { label, table, .. } = self;
         let answer = match self.call {
             Call::Read => odl_model::read(label, room),
@@ -96,6 +113,7 @@ impl Case {
                 let (start, end) = odl_model::name(label, table, self.row);
                 return (0, start, end);
             }
+            Call::Take => odl_model::take(&mut book.counts, label, room),
         };
         (answer.code, answer.place, answer.length)
     }
@@ -103,49 +121,104 @@ impl Case {
     /// The room that the model says is needed.
     pub fn room_needed(&self) -> usize {
         match self.call {
-            Call::Read | Call::Write | Call::Rewrite | Call::Text => self.model(&mut []).2,
             Call::Find | Call::Name => 0,
+            _ => self.model(&mut raw::Book { counts: self.book }, &mut []).2,
         }
     }
 
     /// Compares the two on this case: the answer, or what differs.
     pub fn check(&self) -> Result<Answer, String> {
         let before = self.clone();
-        let (library, our_room, kept) = lent(self.room, |room| self.library(room));
-        let (model, model_room, _) = lent(self.room, |room| self.model(room));
-        let differs = |what: String| {
-            let said = format!("library {library:?}, model {model:?}");
-            Err(format!("{what}\n{said}\n{}", self.shown()))
+        let library = self.lent(|book, room| self.library(book, room));
+        let model = self.lent(|book, room| self.model(book, room));
+        let difference = match *self == before {
+            true => self.difference(&library, &model),
+            false => Some("bytes lent for reading were changed".to_string()),
         };
-        if !kept {
-            return differs("bytes around the room were touched".to_string());
+        match difference {
+            None => Ok(library.answer),
+            Some(what) => {
+                let said = format!("library {:?}, model {:?}", library.answer, model.answer);
+                Err(format!("{what}\n{said}\n{}", self.shown()))
+            }
         }
-        if library != model {
-            return differs("the answers differ".to_string());
+    }
+
+    fn difference(&self, library: &Left, model: &Left) -> Option<String> {
+        if !library.kept {
+            return Some("bytes around the room or the book were touched".to_string());
         }
-        if let Some(at) = first_difference(&our_room, &model_room) {
-            return differs(format!("the rooms differ at byte {at}"));
+        if library.answer != model.answer {
+            return Some("the answers differ".to_string());
         }
-        // What the rules say of the room, whatever the model did with it.
-        let written = match self.call {
-            Call::Find | Call::Name => 0,
-            _ if library.0 == 0 => library.2,
+        if library.book != model.book {
+            let books = format!("library {:?}, model {:?}", library.book, model.book);
+            return Some(format!("the books differ: {books}"));
+        }
+        if let Some(at) = first_difference(&library.room, &model.room) {
+            return Some(format!("the rooms differ at byte {at}"));
+        }
+        self.broken_rule(library)
+    }
+
+    /// What the rules say of an answer and what it leaves, whatever the model did.
+    fn broken_rule(&self, left: &Left) -> Option<String> {
+        let written = match (self.call, left.answer) {
+            (Call::Find | Call::Name, _) => 0,
+            (_, (0, _, length)) => length,
             _ => 0,
         };
         let touched = |&(at, &byte): &(usize, &u8)| at >= written && byte != pattern(at);
-        if let Some((at, _)) = our_room.iter().enumerate().find(touched) {
-            return differs(format!("byte {at} of the room was touched"));
+        if let Some((at, _)) = left.room.iter().enumerate().find(touched) {
+            return Some(format!("byte {at} of the room was touched"));
         }
-        if *self != before {
-            return differs("bytes lent for reading were changed".to_string());
+        let rules = [
+            (
+                "the session is not counted once",
+                self.is_counted_once(left),
+            ),
+            (
+                "it is taken otherwise than read",
+                self.is_taken_as_read(left),
+            ),
+            (
+                "dates or times are read again as others",
+                left.answer.0 != 0 || self.is_read_again(&left.room[..written]),
+            ),
+            (
+                "with other marks it is written otherwise",
+                self.is_written_whatever_the_marks(left),
+            ),
+        ];
+        let broken = rules.into_iter().find(|&(_, holds)| !holds);
+        broken.map(|(what, _)| what.to_string())
+    }
+
+    /// Whether one counter is one more if a label was taken, and all are as they
+    /// were if not.
+    fn is_counted_once(&self, left: &Left) -> bool {
+        let is_taken = self.call == Call::Take && left.answer.0 == 0;
+        let pairs = self.book.iter().zip(&left.book);
+        let changed: Vec<(&u32, &u32)> = pairs.filter(|(before, after)| before != after).collect();
+        match changed[..] {
+            [] => !is_taken,
+            [(before, after)] => is_taken && before.checked_add(1) == Some(*after),
+            _ => false,
         }
-        if library.0 == 0 && !self.is_read_again(&our_room[..written]) {
-            return differs("dates or times are read again as others".to_string());
+    }
+
+    /// Whether a label is taken with the answer and the room that the library's
+    /// reading gives, unless the book is full (02 §1).
+    fn is_taken_as_read(&self, left: &Left) -> bool {
+        if self.call != Call::Take {
+            return true;
         }
-        if !self.is_written_whatever_the_marks(library, &our_room) {
-            return differs("with other marks it is written otherwise".to_string());
+        let reading = Case::read(&self.label, self.room);
+        let read = reading.lent(|book, room| reading.library(book, room));
+        match read.answer {
+            (0, ..) if book::is_full(&self.book) => left.answer == (16, 0, 0),
+            answer => left.answer == answer && left.room == read.room,
         }
-        Ok(library)
     }
 
     /// Whether the library reads the dates and times of what it wrote as those
@@ -160,9 +233,9 @@ impl Case {
         expected.is_empty() || zones::moments(written, &table_by_library(written)) == expected
     }
 
-    /// Whether the library gives this answer and this room also for the tables
-    /// that differ from a proper one in their marks (02 §6).
-    fn is_written_whatever_the_marks(&self, answer: Answer, room: &[u8]) -> bool {
+    /// Whether the library leaves the same also for the tables that differ from a
+    /// proper one in their marks (02 §6).
+    fn is_written_whatever_the_marks(&self, left: &Left) -> bool {
         let tables = match self.call {
             Call::Write => zones::remarked(&self.label, &self.table),
             _ => Vec::new(),
@@ -172,9 +245,29 @@ impl Case {
                 room: self.room,
                 ..Case::over(Call::Write, &self.label, table)
             };
-            let (same, other_room, _) = lent(self.room, |room| other.library(room));
-            same == answer && other_room == room
+            let same = other.lent(|book, room| other.library(book, room));
+            same.answer == left.answer && same.room == left.room
         })
+    }
+
+    /// Runs a call with this case's book and with room of its length.
+    fn lent(&self, call: impl Fn(&mut raw::Book, &mut [u8]) -> Answer) -> Left {
+        let mut memory = vec![UNLENT; self.room + 2 * AROUND];
+        let room = &mut memory[AROUND..AROUND + self.room];
+        for (at, byte) in room.iter_mut().enumerate() {
+            *byte = pattern(at);
+        }
+        let mut fenced = Fenced::around(self.book);
+        let answer = call(&mut fenced.book, room);
+        let after = memory.split_off(AROUND + self.room);
+        let room = memory.split_off(AROUND);
+        let kept = memory.iter().chain(&after).all(|&byte| byte == UNLENT);
+        Left {
+            answer,
+            book: fenced.book.counts,
+            room,
+            kept: kept && fenced.is_kept(),
+        }
     }
 
     /// Compares with ample room, just enough, one short and none.
@@ -196,10 +289,11 @@ impl Case {
         let table: String = self.table.iter().map(|b| format!("{b:02x}")).collect();
         let table = cut(table);
         format!(
-            "{:?} with room {} at row {}\nname  \"{}\"\nlabel ({} bytes) \"{}\"\ntable ({} bytes) {}",
+            "{:?} with room {} at row {}\nbook  {:?}\nname  \"{}\"\nlabel ({} bytes) \"{}\"\ntable ({} bytes) {}",
             self.call,
             self.room,
             self.row,
+            self.book,
             self.name.escape_ascii(),
             self.label.len(),
             cut(self.label.escape_ascii().to_string()),
@@ -231,27 +325,46 @@ fn cut(mut shown: String) -> String {
     shown
 }
 
+/// What a call left.
+struct Left {
+    answer: Answer,
+    book: Book,
+    room: Vec<u8>,
+    /// Whether the bytes around the room and the book were left alone.
+    kept: bool,
+}
+
 /// Bytes on either side of the lent room that are not lent.
 const AROUND: usize = 64;
+const UNLENT: u8 = 0x5A;
 
 /// What the room holds beforehand, so that a moved or cleared byte shows.
 fn pattern(at: usize) -> u8 {
     (at as u8).wrapping_mul(37) ^ (at >> 8) as u8 ^ 0xA5
 }
 
-/// Runs a call with room of this length: its answer, the room, and whether the
-/// bytes around it were left alone.
-fn lent(length: usize, call: impl Fn(&mut [u8]) -> Answer) -> (Answer, Vec<u8>, bool) {
-    const UNLENT: u8 = 0x5A;
-    let mut memory = vec![UNLENT; length + 2 * AROUND];
-    for (at, byte) in memory[AROUND..AROUND + length].iter_mut().enumerate() {
-        *byte = pattern(at);
+/// A book with numbers on either side that are not lent.
+#[repr(C)]
+struct Fenced {
+    before: [u32; 16],
+    book: raw::Book,
+    after: [u32; 16],
+}
+
+impl Fenced {
+    const UNLENT: [u32; 16] = [0x5A5A_5A5A; 16];
+
+    fn around(counts: Book) -> Fenced {
+        Fenced {
+            before: Fenced::UNLENT,
+            book: raw::Book { counts },
+            after: Fenced::UNLENT,
+        }
     }
-    let answer = call(&mut memory[AROUND..AROUND + length]);
-    let after = memory.split_off(AROUND + length);
-    let room = memory.split_off(AROUND);
-    let kept = memory.iter().chain(&after).all(|&byte| byte == UNLENT);
-    (answer, room, kept)
+
+    fn is_kept(&self) -> bool {
+        self.before == Fenced::UNLENT && self.after == Fenced::UNLENT
+    }
 }
 
 fn first_difference(one: &[u8], other: &[u8]) -> Option<usize> {

@@ -1,6 +1,7 @@
-//! The longer run: `cargo run --release -- MINUTES [SEED]`.
+//! The longer runs: `cargo run --release -- MINUTES [SEED]`, or `days`.
 
 use compare::chance::{self, Until};
+use compare::days;
 use std::process::ExitCode;
 use std::time::{Duration, Instant, SystemTime, UNIX_EPOCH};
 
@@ -14,9 +15,10 @@ fn main() -> ExitCode {
         .collect();
     let done = match (&arguments[..], numbers.as_deref()) {
         (["case", ..], Ok(&[seed, number])) => one_case(seed, number),
+        (["days"], _) => all_days(),
         (_, Ok(&[minutes])) => run(minutes, seed_by_the_clock()),
         (_, Ok(&[minutes, seed])) => run(minutes, seed),
-        _ => Err("usage: compare MINUTES [SEED] | compare case SEED NUMBER".to_string()),
+        _ => Err("usage: compare MINUTES [SEED] | case SEED NUMBER | days".to_string()),
     };
     match done {
         Ok(()) => ExitCode::SUCCESS,
@@ -52,16 +54,33 @@ fn run(minutes: u64, seed: u64) -> Result<(), String> {
     for ((call, case), count) in &tally.zones {
         println!("{call:?} {case:?}: {count}");
     }
+    for (case, count) in &tally.sessions {
+        println!("{case:?}: {count}");
+    }
+    for (case, count) in &tally.takings {
+        println!("{case:?}: {count}");
+    }
+    for (code, count) in &tally.histories {
+        println!("in histories code {code}: {count}");
+    }
     for (run, count) in chance::NO_KINDS.iter().zip(tally.no_kinds) {
         println!("no row is of kind {run:?}: {count}");
     }
-    println!("{} passed, 0 failed", tally.codes.values().sum::<u64>());
+    let calls = tally.codes.values().chain(tally.histories.values());
+    println!("{} passed, 0 failed", calls.sum::<u64>());
+    Ok(())
+}
+
+/// Every day of every year, taken.
+fn all_days() -> Result<(), String> {
+    println!("{} passed, 0 failed", days::check_all()?);
     Ok(())
 }
 
 fn one_case(seed: u64, number: u64) -> Result<(), String> {
     let (code, place, length) = chance::case(seed, number).check()?;
     println!("no difference: {code} {place} {length}");
-    println!("1 passed, 0 failed");
+    let history = chance::check_history(seed, number)?.values().sum::<u64>();
+    println!("{} passed, 0 failed", 1 + history);
     Ok(())
 }

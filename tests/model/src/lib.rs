@@ -1,26 +1,32 @@
 //! An independent model of the rules for ODL 2.1 labels: reader, writer,
-//! lookup, name view, text reassembly, meaning, and layout.
+//! lookup, name view, text reassembly, meaning, layout, and the session book.
 //!
 //! It is written from the scope paper, the rulings and chapter 12 of the
 //! standard, and shares no code with what it is compared against. It favours
 //! the plain way of doing a thing: results are built in a `Vec` and copied
 //! into the lent room only once they are known to fit.
 
+pub mod book;
 pub mod dates;
 mod elements;
 mod gaps;
 pub mod layout;
 mod lookup;
 mod meaning;
+mod outline;
 pub mod random;
 pub mod reals;
 pub mod rows;
+pub mod sessions;
 mod statements;
 mod table;
 mod text;
+pub mod weekdays;
 mod words;
 mod writer;
 pub mod zones;
+
+use book::Book;
 
 /// No label, given or written, is longer than this.
 pub const LONGEST_LABEL: usize = 65_535;
@@ -43,9 +49,10 @@ pub mod code {
     pub const WRITTEN_TOO_LONG: u8 = 13;
     pub const NAME_ABSENT: u8 = 14;
     pub const NO_SUCH_ROW: u8 = 15;
+    pub const BOOK_FULL: u8 = 16;
 }
 
-/// What a reading, a writing or a text reassembly reports.
+/// What a reading, a writing, a text reassembly or a taking reports.
 #[derive(Debug, Clone, Copy, PartialEq, Eq)]
 pub struct Answer {
     pub code: u8,
@@ -76,6 +83,27 @@ pub fn read(label: &[u8], table: &mut [u8]) -> Answer {
         Ok((rows, end)) => deliver(&rows, end, table),
         Err(fault) => fault.refusal(),
     }
+}
+
+/// Reads a label into the lent table room and counts it in the book. Only what
+/// the reader accepts, the room included, can find the book full.
+pub fn take(book: &mut Book, label: &[u8], table: &mut [u8]) -> Answer {
+    let (rows, end) = match reading(label) {
+        Ok(read) => read,
+        Err(fault) => return fault.refusal(),
+    };
+    let fits = rows.len() <= table.len();
+    if fits && book::is_full(book) {
+        return Answer {
+            code: code::BOOK_FULL,
+            place: 0,
+            length: 0,
+        };
+    }
+    if fits {
+        book[book::counter(label, &rows)] += 1;
+    }
+    deliver(&rows, end, table)
 }
 
 /// Writes the canonical label of a table into the lent room.

@@ -7,6 +7,10 @@
 //! Tables are those of good labels, whole or damaged, or hold reals, dates or zones
 //! that come from no label, each with a row and a name to ask for.
 
+mod sessions;
+
+pub use sessions::session_label;
+
 use crate::words::{days_in_month, is_leap, Real};
 use crate::{read, LONGEST_LABEL};
 
@@ -465,13 +469,18 @@ impl<'r> Maker<'r> {
     }
 
     fn opening(&mut self) {
-        let (word, closing) = self.random.pick(&[
+        let words = self.random.pick(&[
             ("OBJECT", "END_OBJECT"),
             ("Object", "end_object"),
             ("GROUP", "END_GROUP"),
             ("group", "End_Group"),
         ]);
         let name = self.name();
+        self.opening_of(words, name);
+    }
+
+    /// A block of this name, with its opening and closing words.
+    fn opening_of(&mut self, (word, closing): (&'static str, &'static str), name: String) {
         self.put(word);
         self.put("=");
         self.put(&name);
@@ -728,6 +737,10 @@ impl<'r> Maker<'r> {
 
     fn date(&mut self) -> String {
         let date = some_day(self.random);
+        self.spelled(date)
+    }
+
+    fn spelled(&mut self, date: (u16, u8, u8)) -> String {
         let (year, of_year) = (date.0, day_of_year(date));
         match self.random.below(4) {
             0 => format!("{year:04}-{of_year:03}"),

@@ -43,7 +43,7 @@ module _ (given : List ℕ) (l : length given < 65536) where
   codes set-end v h = tt
   codes (last n) v h = omega arith
 
-  all-codes : (rs : List Row) → Each Valued rs → Each (Holds given) rs → Each Codes rs
+  pub all-codes : (rs : List Row) → Each Valued rs → Each (Holds given) rs → Each Codes rs
   all-codes [] none none = none
   all-codes (r ∷ rs) (one v vs) (one h hs) = one (codes r v h) (all-codes rs vs hs)
 

@@ -1,5 +1,6 @@
 -- The table that a reading gives, in any mode, is proper over the label that was read.
 use Prim.Native.Nat.{ℕ}
+use native.Mathlib.Omega.{arith}
 use mathlib.Core.Path.{refl}
 use mathlib.Core.List.{List}
 use Rattle.rules.specs.Data.{Span, Name, Elem, name, text, symbol, Placed, Row}
@@ -18,6 +19,8 @@ use Rattle.rules.proofs.Tables.ElementLimits.{form-worded, cut-possible
 use Rattle.rules.proofs.Tables.RowOrder.{rows-complete}
 use Rattle.rules.proofs.Tables.RowLimits.{rows-valued}
 use Rattle.rules.proofs.Tables.Proper.{proper}
+use Rattle.rules.proofs.Tables.Once.{all-codes}
+use Rattle.rules.proofs.Machine.Limits.{Valued, Codes}
 
 -- ---- what an element's span holds is what the row's kind allows; no word is a text or a quoted symbol
 
@@ -78,3 +81,10 @@ module _ (m : Mode) where
     -- and its table has that verdict
     pub read-ruled : {rows : List Row} {i : ℕ} → Reads m label (accepted rows i) → Ruled label (table rows) (proper-rows rows)
     read-ruled r = is-proper refl (read-proper r)
+
+    -- its rows keep the limits of values, and each number has room in its bytes
+    pub read-valued : {rows : List Row} {i : ℕ} → Reads m label (accepted rows i) → Each Valued rows
+    read-valued r = proper .0 (read-proper r) .values
+
+    pub read-codes : {rows : List Row} {i : ℕ} → Reads m label (accepted rows i) → Each Codes rows
+    read-codes {rows} (read h j) = let p = proper .0 (read-proper (read h j)) in all-codes label (omega arith) rows (p .values) (p .spans)

@@ -7,7 +7,8 @@ use mathlib.Core.List.{List, [], _∷_, _++_, append-assoc, nil≢cons}
 use native.Mathlib.Omega.{arith}
 use borrow.Author.Tests.{ne-eqb, le-leb, leb-true, eqb-true}
 use lib.Dec.{leb, eqb}
-use lib.ListN.{length, length-append}
+use lib.ListN.{length, drop, length-append}
+use lib.Seq.{drop-drop, drop-append-seam}
 use Rattle.rules.specs.Data.{Span, Kind, Kind-discrete, object, group, Op, first, times, divided, Row, attribute, pointer, opened, closed, an-integer, a-real, a-moment, a-text, a-symbol, a-unit, sequence, sequence-end, set, set-end, last}
 use Rattle.rules.specs.Table.{encode, table}
 use Rattle.rules.specs.Proper.{Each, none, one, Proper}
@@ -52,6 +53,24 @@ from-there n (x ∷ rs) {r} {qs} e = go (λ e. from-there (n - length (encode x)
         cond c (x ∷ rs) (cond (leb (length (encode x)) n) (fromOf (n - length (encode x)) rs) []) ≡ r ∷ qs → From n (x ∷ rs) (r ∷ qs)
     go ih true h e = rw (eqb-true n 0 h, e) here
     go ih false h e = deeper ih (leb (length (encode x)) n) refl e
+
+-- one row on
+pub from-next : {n : ℕ} {rows qs : List Row} {r : Row} → From n rows (r ∷ qs) → From (n + length (encode r)) rows qs
+from-next {qs = qs} {r = r} here = let e : length (encode r) + 0 ≡ 0 + length (encode r) = omega arith in subst (λ (i : ℕ). From i (r ∷ qs) qs) e (later here)
+from-next {qs = qs} {r = r} (later {n = n} {r = x} {rs = rs} f) =
+    let e : length (encode x) + (n + length (encode r)) ≡ length (encode x) + n + length (encode r) = omega arith in
+    subst (λ (i : ℕ). From i (x ∷ rs) qs) e (later (from-next f))
+
+-- their bytes are the table's from the offset on
+pub from-bytes : {n : ℕ} {rows qs : List Row} → From n rows qs → drop n (table rows) ≡ table qs
+from-bytes here = refl
+from-bytes (later {n = n} {r = r} {rs = rs} f) =
+    sym (drop-drop n (length (encode r)) (encode r ++ table rs)) ∙ ap (drop n) (drop-append-seam (encode r) (table rs)) ∙ from-bytes f
+
+-- what holds of all rows holds of them
+pub from-each : {P : Row → Type 0} {n : ℕ} {rows qs : List Row} → From n rows qs → Each P rows → Each P qs
+from-each here e = e
+from-each (later f) (one p e) = from-each f e
 
 -- ---- the lookup
 

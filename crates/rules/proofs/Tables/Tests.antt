@@ -1,9 +1,10 @@
--- Tests that are true or false: taken apart and put together; and what holds of the bytes of a list.
-use Prim.Native.Nat.{ℕ, _≤_, _<_}
-use mathlib.Core.Path.{_≡_, refl}
+-- Tests that are true or false: taken apart and put together; what holds of the bytes of a list; and tests of every number below a bound.
+use Prim.Native.Nat.{ℕ, zero, suc, _≤_, _<_}
+use native.Mathlib.Omega.{arith}
+use mathlib.Core.Path.{_≡_, refl, ap, _∙_}
 use mathlib.Core.Bool.{Bool, true, false, cond, not, _&&_, _||_, false≢true, true≢false, and-false}
 use mathlib.Core.List.{List, [], _∷_, _++_}
-use borrow.Author.Tests.{leb-true, le-leb, lt-leb, eqb-true, eq-eqb}
+use borrow.Author.Tests.{leb-true, le-leb, lt-leb, eqb-true, eqb-false, eq-eqb}
 use lib.Dec.{leb, eqb}
 use Rattle.rules.specs.Bytes.{between, All}
 use Rattle.rules.specs.Bytes as Bytes
@@ -107,3 +108,22 @@ same-true (a ∷ s) (b ∷ t) h = let e = eqb-true a b (and-left (eqb a b) (same
 pub true-same : (s : List ℕ) → same s s ≡ true
 true-same [] = refl
 true-same (a ∷ s) = rw (eq-eqb a a refl) (true-same s)
+
+-- ---- a test of every number below a bound
+
+abbrev pub check : (ℕ → Bool) → ℕ → Bool
+check p zero = true
+check p (suc k) = p k && check p k
+
+pub upto : (p : ℕ → Bool) (k : ℕ) → check p k ≡ true → (m : ℕ) → m < k → p m ≡ true
+upto p zero h m l = absurd (omega arith)
+upto p (suc k) h m l = go (upto p k (and-right (p k) (check p k) h) m) (eqb m k) refl
+  where
+    go : (m < k → p m ≡ true) → (t : Bool) → eqb m k ≡ t → p m ≡ true
+    go ih true e = ap p (eqb-true m k e) ∙ and-left (p k) (check p k) h
+    go ih false e = let n = eqb-false m k e in ih (omega arith)
+
+-- of two tests, as of a leap year and of a plain one
+pub upto-either : (p : Bool → ℕ → Bool) (k : ℕ) → check (p true) k ≡ true → check (p false) k ≡ true → (t : Bool) (m : ℕ) → m < k → p t m ≡ true
+upto-either p k h g true m l = upto (p true) k h m l
+upto-either p k h g false m l = upto (p false) k g m l

@@ -1,6 +1,7 @@
 //! Tables and written labels about as long as the array of 16,384 bytes that
 //! the library fills before it touches the room, and much longer ones: the
-//! place where the array is full may fall anywhere in a row.
+//! place where the array is full may fall anywhere in a row. Sessions too, whose
+//! START_TIME stands about there.
 
 use compare::{Call, Case};
 use odl_model::random::{self, Random};
@@ -51,6 +52,43 @@ fn tables_about_as_long_as_the_array_agree() {
             let case = Case::read(&label_for(table, number), 0);
             assert_eq!(case.room_needed(), table);
             case.check_rooms().unwrap_or_else(|text| panic!("{text}"));
+        }
+    }
+}
+
+/// The label, with a START_TIME behind its other statements: 21 bytes of rows.
+fn with_start_time(mut label: Vec<u8>) -> Vec<u8> {
+    label.truncate(label.len() - b"END\n".len());
+    label.extend(b"START_TIME=1979-07-08 END\n");
+    label
+}
+
+#[test]
+fn sessions_whose_start_time_is_about_where_the_array_ends_agree() {
+    for before in ARRAY - 30..=ARRAY + 10 {
+        let label = with_start_time(label_for(before, before));
+        for book in [[0; 8], [125_000; 8]] {
+            let case = Case::take(book, &label, 0);
+            assert_eq!(case.room_needed(), before + 21);
+            case.check_rooms().unwrap_or_else(|text| panic!("{text}"));
+        }
+    }
+}
+
+#[test]
+fn sessions_with_long_tables_agree() {
+    for before in [ARRAY, 2 * ARRAY, 65_535, 80_000] {
+        let last = with_start_time(label_for(before, 0));
+        let first = [b"start_time=1979-07-09T00:30+1 ", &last[..]].concat();
+        for (label, weekday) in [(last, 6), (first, 0)] {
+            let mut book = odl::raw::Book { counts: [0; 8] };
+            let mut room = vec![0; 5 * label.len()];
+            assert_eq!(odl::raw::take(&mut book, &label, &mut room).code, 0);
+            assert_eq!((book.counts[weekday], book.counts[7]), (1, 0));
+            for book in [[0; 8], [u32::MAX; 8]] {
+                let rooms = Case::take(book, &label, 0).check_rooms();
+                rooms.unwrap_or_else(|text| panic!("{text}"));
+            }
         }
     }
 }

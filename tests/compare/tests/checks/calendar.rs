@@ -7,10 +7,10 @@ use std::ops::RangeInclusive;
 
 /// A day, and its number in its year.
 #[derive(Debug, Clone, Copy, PartialEq, Eq)]
-struct Day {
-    year: u16,
-    month: u8,
-    day: u8,
+pub struct Day {
+    pub year: u16,
+    pub month: u8,
+    pub day: u8,
     of_year: u16,
 }
 
@@ -22,7 +22,7 @@ impl Day {
         of_year: 1,
     };
 
-    fn next(self) -> Day {
+    pub fn next(self) -> Day {
         let mut next = self;
         next.day += 1;
         next.of_year += 1;
@@ -53,14 +53,14 @@ impl Day {
         (self.year + self.of_year) % 2 == 1
     }
 
-    fn by_day_of_year(self) -> String {
+    pub fn by_day_of_year(self) -> String {
         match self.has_zeros() {
             true => format!("{:04}-{:03}", self.year, self.of_year),
             false => format!("{:04}-{}", self.year, self.of_year),
         }
     }
 
-    fn by_month_and_day(self) -> String {
+    pub fn by_month_and_day(self) -> String {
         match self.has_zeros() {
             true => self.form(),
             false => format!("{:04}-{}-{}", self.year, self.month, self.day),
@@ -88,7 +88,7 @@ fn is_leap(year: u16) -> bool {
 }
 
 /// The days of these years, one after the other.
-fn days(years: RangeInclusive<u16>) -> Vec<Day> {
+pub fn days(years: RangeInclusive<u16>) -> Vec<Day> {
     let first = Day {
         year: *years.start(),
         ..Day::FIRST
@@ -108,7 +108,7 @@ fn each<T>(days: &[Day], of: impl Fn(Day) -> T) -> Vec<T> {
     days.iter().map(|&day| of(day)).collect()
 }
 
-const ALL: RangeInclusive<u16> = 1..=9999;
+pub const ALL: RangeInclusive<u16> = 1..=9999;
 
 /// So many dates, as read or as written, fill a label.
 const FILL: usize = 5_400;

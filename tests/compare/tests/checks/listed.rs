@@ -1,5 +1,6 @@
 //! The list of examples: its answers and rows, and everything near them.
 
+use crate::support::unescaped;
 use compare::{Call, Case};
 use odl::{Date, Join, Label, Moment, Row, Time, Zone};
 
@@ -29,28 +30,6 @@ fn examples() -> Vec<Example> {
             }
         })
         .collect()
-}
-
-fn unescaped(text: &str) -> Vec<u8> {
-    let mut bytes = Vec::new();
-    let mut rest = text.chars();
-    while let Some(character) = rest.next() {
-        bytes.push(match character {
-            '\\' => match rest.next() {
-                Some('n') => b'\n',
-                Some('r') => b'\r',
-                Some('t') => b'\t',
-                Some('"') => b'"',
-                Some('x') => {
-                    let digits: String = rest.by_ref().take(2).collect();
-                    u8::from_str_radix(&digits, 16).unwrap()
-                }
-                other => panic!("no escape: {other:?}"),
-            },
-            _ => u8::try_from(character).unwrap(),
-        });
-    }
-    bytes
 }
 
 fn escaped(text: &str) -> String {
@@ -140,6 +119,18 @@ fn listed_answers_and_rows_are_given() {
             Ok(label) => assert_eq!(described(&label), example.rows, "{}", example.name),
             Err(_) => assert!(example.rows.starts_with("refused: "), "{}", example.name),
         }
+    }
+}
+
+#[test]
+fn listed_labels_are_taken_as_they_are_read() {
+    for example in examples() {
+        for book in [[0; 8], [125_000; 8]] {
+            let rooms = Case::take(book, &example.label, 0).check_rooms();
+            assert!(rooms.is_ok(), "{}: {rooms:?}", example.name);
+        }
+        let taken = Case::take([1; 8], &example.label, 5 * example.label.len()).check();
+        assert_eq!(taken, Ok(example.answer), "{}", example.name);
     }
 }
 

@@ -9,5 +9,8 @@ mod listed;
 mod meaning;
 mod odd;
 mod random;
+mod sessions;
+mod sessions_listed;
 mod support;
+mod weekdays;
 mod zones;

@@ -46,6 +46,9 @@ fn longest_labels_agree() {
     for length in [65_533, 65_534, 65_535, 65_536, 65_537, 70_000, 200_000] {
         for label in labels_of(length) {
             Case::read(&label, 0).check_rooms().unwrap();
+            for book in [[0; 8], [u32::MAX; 8]] {
+                Case::take(book, &label, 0).check_rooms().unwrap();
+            }
             let Ok(read) = odl::read(&label) else {
                 continue;
             };
@@ -198,6 +201,8 @@ fn any_name_agrees() {
 }
 
 mod face {
+    use odl::raw::Book;
+
     pub type In = *const u8;
     pub type Out = *mut usize;
 
@@ -236,6 +241,15 @@ mod face {
             at: Out,
         ) -> u8;
         pub fn odl_name(l: In, ll: usize, t: In, tl: usize, row: usize, s: Out, e: Out);
+        pub fn odl_take(
+            b: *mut Book,
+            l: In,
+            ll: usize,
+            t: *mut u8,
+            tl: usize,
+            p: Out,
+            n: Out,
+        ) -> u8;
     }
 }
 
@@ -278,4 +292,33 @@ fn null_stands_for_no_bytes() {
         face::odl_name(null(), 0, null(), 0, 0, &mut p, &mut n);
         assert_eq!((p, n), (0, 0));
     }
+}
+
+/// The same of a taking; to the book itself the pointer is never NULL.
+#[test]
+fn null_stands_for_no_bytes_of_a_session() {
+    use std::ptr::{null, null_mut};
+    let mut room = [0; 3];
+    let mut take = |counts: [u32; 8], label: &[u8], fits: bool| {
+        let (mut book, mut p, mut n) = (odl::raw::Book { counts }, 77, 77);
+        let (l, ll) = match label {
+            [] => (null(), 0),
+            _ => (label.as_ptr(), label.len()),
+        };
+        let (t, tl) = match fits {
+            true => (room.as_mut_ptr(), room.len()),
+            false => (null_mut(), 0),
+        };
+        // SAFETY: every pointer is that of a live buffer, or NULL with length 0.
+        let code = unsafe { face::odl_take(&mut book, l, ll, t, tl, &mut p, &mut n) };
+        ((code, p, n), book.counts)
+    };
+    let [empty, one, full] = [[0; 8], [0, 0, 0, 0, 0, 0, 0, 1], [125_000; 8]];
+    assert_eq!(take(empty, b"", false), ((10, 0, 0), empty));
+    assert_eq!(take(empty, b"", true), ((10, 0, 0), empty));
+    assert_eq!(take(empty, b"END", false), ((11, 3, 3), empty));
+    assert_eq!(take(full, b"END", false), ((11, 3, 3), full));
+    assert_eq!(take(full, b"END", true), ((16, 0, 0), full));
+    assert_eq!(take(empty, b"END", true), ((0, 3, 3), one));
+    assert_eq!(room, [99, 0, 3]);
 }

@@ -2,17 +2,17 @@
 
 use crate::support::seed;
 use compare::chance::{self, Tally, Until, NO_KINDS, ROWS_WRITTEN};
-use compare::Call;
+use compare::{books, Call};
 use odl::Row;
 use odl_model::random::Random;
-use odl_model::{dates, reals, rows, zones};
+use odl_model::{dates, reals, rows, sessions, zones};
 use std::io::Write;
 
-const CASES: u64 = 157_000;
+const CASES: u64 = 205_000;
 
 /// Every case of the rule for rows, of written reals, of the calendar and
-/// decimals, of zones and their marks, and of kinds that no row has must come up
-/// more often than this.
+/// decimals, of zones and their marks, of the session book, and of kinds that no
+/// row has must come up more often than this.
 const LEAST: u64 = 20;
 
 #[test]
@@ -30,6 +30,7 @@ fn random_cases_agree_and_reach_every_code_and_case() {
     check_reals(&tally);
     check_dates(&tally);
     check_zones(&tally);
+    check_sessions(&tally);
     let no_kinds = NO_KINDS.iter().zip(tally.no_kinds);
     let rare: Vec<_> = no_kinds.filter(|&(_, count)| count <= LEAST).collect();
     assert!(rare.is_empty(), "{rare:?}");
@@ -75,15 +76,34 @@ fn check_zones(tally: &Tally) {
     }
 }
 
+/// Labels were taken in every case of the session book, with books and rooms in
+/// every case; in histories labels were taken, and refused by the label, the room
+/// and the book.
+fn check_sessions(tally: &Tally) {
+    for case in sessions::all() {
+        let count = tally.sessions.get(&case).copied().unwrap_or(0);
+        assert!(count > LEAST, "{case:?}: {count}");
+    }
+    for case in books::all() {
+        let count = tally.takings.get(&case).copied().unwrap_or(0);
+        assert!(count > LEAST, "{case:?}: {count}");
+    }
+    for codes in [0..=0, 1..=10, 11..=11, 16..=16] {
+        let count: u64 = tally.histories.range(codes.clone()).map(|(_, n)| n).sum();
+        assert!(count > LEAST, "codes {codes:?} in histories: {count}");
+    }
+}
+
 /// Every call answered with every code that it has.
 fn check_codes(tally: &Tally) {
-    let expected: [(Call, &[u8]); 6] = [
+    let expected: [(Call, &[u8]); 7] = [
         (Call::Read, &[0, 1, 2, 3, 4, 5, 6, 7, 8, 9, 10, 11]),
         (Call::Write, &[0, 1, 11, 12, 13]),
         (Call::Rewrite, &[0, 1, 2, 3, 4, 5, 6, 7, 8, 9, 10, 11, 13]),
         (Call::Text, &[0, 1, 11, 12, 15]),
         (Call::Find, &[0, 1, 12, 14, 15]),
         (Call::Name, &[0, 15]),
+        (Call::Take, &[0, 1, 2, 3, 4, 5, 6, 7, 8, 9, 10, 11, 16]),
     ];
     let expected: Vec<(Call, u8)> = expected
         .iter()

@@ -88,3 +88,26 @@ pub fn check_row_refused(row: MomentRow) {
     let given = (answer.code, answer.place, answer.length);
     assert_eq!(given, (12, 22, 0), "{row:?}");
 }
+
+/// The bytes that the escapes of the lists stand for.
+pub fn unescaped(text: &str) -> Vec<u8> {
+    let mut bytes = Vec::new();
+    let mut rest = text.chars();
+    while let Some(character) = rest.next() {
+        bytes.push(match character {
+            '\\' => match rest.next() {
+                Some('n') => b'\n',
+                Some('r') => b'\r',
+                Some('t') => b'\t',
+                Some('"') => b'"',
+                Some('x') => {
+                    let digits: String = rest.by_ref().take(2).collect();
+                    u8::from_str_radix(&digits, 16).unwrap()
+                }
+                other => panic!("no escape: {other:?}"),
+            },
+            _ => u8::try_from(character).unwrap(),
+        });
+    }
+    bytes
+}

@@ -1,6 +1,7 @@
 //! Checks of the model: the examples of the documents, the rulings, and what
 //! must hold of every label and table.
 
+mod book;
 mod calendar;
 mod examples;
 mod layout;
@@ -9,6 +10,9 @@ mod properties;
 mod reals;
 mod rows;
 mod rulings;
+mod sessions;
+mod sessions_listed;
 mod support;
 mod vectors;
+mod weekdays;
 mod zones;
