@@ -22,9 +22,10 @@
  * lent room and those that are read.
  *
  * Calls share no state and may run at the same time in many threads, each
- * with its own room, book and results; threads that share a book take turns. A
- * call needs no more than 64 KiB of stack; this is measured (tests/c/stack.c:
- * 21 KB at most), not proved.
+ * with its own room, book and results. Threads that share a book have to see to
+ * it that they take turns, also for labels that are refused: every call stores
+ * the book. A call needs no more than 64 KiB of stack; this is measured
+ * (tests/c/stack.c: 21 KB at most), not proved.
  *
  * Room on a board. For x86-64 the library has less than 46,000 bytes of code
  * and less than 2,300 bytes of constant data, and nothing that is written to.

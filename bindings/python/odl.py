@@ -301,9 +301,9 @@ class Book:
 
     def take(self, data: bytes) -> str:
         """Reads a label and counts its session under the weekday of the first
-        START_TIME at the top: of the date as written, whatever the zone. Without
-        one, or with one that is not a single value with a date, the session is
-        undated. The answer is the counter's name.
+        START_TIME outside all blocks: of the date as written, whatever the zone.
+        Without one, or with one that is not a single value with a date, the
+        session is undated. The answer is the counter's name.
 
         Raises for a label that is refused, and with code 16 if the book is full:
         the counts come to 1,000,000 or more. The book then stays as it is."""

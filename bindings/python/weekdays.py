@@ -2,8 +2,8 @@
 
     python3 weekdays.py LABEL...
 
-Undated labels (no START_TIME at the top, or one that is not a single value
-with a date) are counted apart. Files that are refused are listed with their
+Undated labels (no START_TIME outside all blocks, or one that is not a single
+value with a date) are counted apart. Files that are refused are listed with their
 reason, counted nowhere, and make the program end with status 1: also a right
 one once 1,000,000 are counted, for then the book is full.
 """

@@ -3,8 +3,8 @@
     python3 zones.py LABEL...
 
 For each file it prints `no zone`, `Z` or a signed zone such as `+07:00`; or `no
-time`, where there is no START_TIME at the top, or one that is not a single value
-with a time. Files that are refused are listed with their reason, and make the
+time`, where there is no START_TIME outside all blocks, or one that is not a single
+value with a time. Files that are refused are listed with their reason, and make the
 program end with status 1.
 
 `no zone` is a camera whose clock's zone was never set. Ask it of the camera's
@@ -19,7 +19,7 @@ import sessions
 
 
 def start_time(label: bytes):
-    """The value of the first START_TIME at the top; None if there is none."""
+    """The value of the first START_TIME outside all blocks; None if there is none."""
     values = (
         statement.value
         for statement in odl.read(label)
