@@ -27,9 +27,6 @@ static const char *const reasons[] = {
     "no attribute of that name",
     "not the offset of a row that is asked for",
     "the book is full",
-    [ODL_ALREADY_ZERO] = "that counter is already zero",
-    [ODL_NO_COUNTER] = "no counter has that number",
-    [ODL_NOT_BORNE_OUT] = "the counts do not bear out the book's busiest weekday",
 };
 
 /* One byte more than a label may have is enough to see that it is too long. */

@@ -3,7 +3,7 @@
  * A label is read into a table: a run of rows, each one byte of kind and a
  * body whose length the kind fixes. A table is written out as a canonical
  * label. Three calls ask about single rows. A session book counts labels by the
- * weekday of their START_TIME, and keeps the busiest weekday.
+ * weekday of their START_TIME.
  *
  * Buffers. Every buffer is a pointer and its length in bytes, and the pointer
  * may be NULL where the length is 0. Any bytes are legal in every buffer: what
@@ -14,9 +14,8 @@
  * and on 0 it is untouched beyond the reported length.
  *
  * Book. The pointer to it must not be NULL, and the book must not overlap any
- * buffer. Any numbers are legal in it: the sum of the counts does not wrap, and
- * a busiest day that the counts do not bear out is answered by a code, 24. On
- * any code but 0 the book is as it was.
+ * buffer. Any eight numbers are legal in it: their sum does not wrap. On any
+ * code but 0 the book is as it was.
  *
  * Results. Every call sets all of them. The pointers to results must not be
  * NULL, must be distinct, and must point outside the book and all buffers: the
@@ -24,21 +23,21 @@
  *
  * Calls share no state and may run at the same time in many threads, each
  * with its own room, book and results. Threads that share a book have to see to
- * it that they take turns, also to look at it, and for calls that are refused:
- * every call on a book stores it. A call needs no more than 64 KiB of stack; this
- * is measured (tests/c/stack.c: 21 KB at most), not proved.
+ * it that they take turns, also for labels that are refused: every call stores
+ * the book. A call needs no more than 64 KiB of stack; this is measured
+ * (tests/c/stack.c: 21 KB at most), not proved.
  *
- * Room on a board. For x86-64 the library has less than 47,000 bytes of code
+ * Room on a board. For x86-64 the library has less than 46,000 bytes of code
  * and less than 2,300 bytes of constant data, and nothing that is written to.
  * It holds no arrays of constants: the constant data are the compiler's tables
  * for branches, and masks. `tests/c/constants LIBRARY` measures the bytes.
  *
- * Time. odl_read and odl_take take time in proportion to the label, and
- * odl_take_back looks at the book alone. The other calls judge the whole table
- * first, each time anew, so each takes time in proportion to the table and to all
- * bytes that its spans show. In a table from elsewhere these may be many: each
- * row may show the whole label. To walk all rows of a table that was just read,
- * step from row to row as the kinds say: the spans of names stand in the rows.
+ * Time. odl_read and odl_take take time in proportion to the label. The other
+ * calls judge the whole table first, each time anew, so each takes time in
+ * proportion to the table and to all bytes that its spans show. In a table from
+ * elsewhere these may be many: each row may show the whole label. To walk all
+ * rows of a table that was just read, step from row to row as the kinds say:
+ * the spans of names stand in the rows.
  */
 #ifndef ODL_H
 #define ODL_H
@@ -82,11 +81,7 @@ enum odl_code {
     ODL_WRITTEN_TOO_LONG = 13, /* written label over 65,535 bytes: 65535 */
     ODL_NAME_ABSENT = 14,     /* no attribute of that name: 0 */
     ODL_NO_SUCH_ROW = 15,     /* not the offset of a row that is asked for: 0 */
-    ODL_BOOK_FULL = 16,       /* the book is full: 0 */
-    ODL_ALREADY_ZERO = 22,    /* the counter is already zero: 0 */
-    ODL_NO_COUNTER = 23,      /* no counter has that number: 0 */
-    ODL_NOT_BORNE_OUT = 24    /* the counts do not bear out the book's busiest
-                                 day: 0 */
+    ODL_BOOK_FULL = 16        /* the book is full: 0 */
 };
 
 /* Kinds of row, with the body that follows the byte of kind. Numbers stand
@@ -134,32 +129,20 @@ enum odl_zone { ODL_NO_ZONE = 0, ODL_Z = 1, ODL_SIGNED_ZONE = 2 };
 enum odl_joint { ODL_FIRST = 0, ODL_TIMES = 1, ODL_DIVIDED = 2 };
 
 /* A session book: how many sessions started on each weekday, Monday first, and
- * last how many are undated; and the number of the busiest weekday. That is the
- * one with the largest count, the earliest from Monday among equals, and 0 for
- * none when all seven are zero. The undated never are the busiest. All zeros is
- * the empty book. The library stores all 36 bytes of a book: compile every
- * caller with this header.
- * A busiest day that the counts bear out is kept right by every call, so to ask
- * for it is to read it. Any other is not mended: every call on that book answers
- * 24. odl_take_back(&book, ODL_NO_DAY) tells: 0 is no counter's number, so this
- * changes nothing, and answers 23 where the day is borne out, 24 where it is not.
- * To keep a book in a file, write its nine numbers: the bytes of the struct are
- * this machine's. Where only eight counts were kept, try 0 to 7 as the busiest
- * day: with the right one, and no other, that call answers 23. */
-struct odl_book { uint32_t counts[8]; uint32_t busiest; };
+ * last how many are undated. All zeros is the empty book. To keep a book in a
+ * file, write its counts: the bytes of the struct are this machine's. */
+struct odl_book { uint32_t counts[8]; };
 
-/* The numbers of the counters; of the busiest day, 0 to 7. The count of a counter
- * stands at its number less one: book.counts[ODL_SUNDAY - 1]. */
-enum odl_counter {
-    ODL_NO_DAY = 0,
-    ODL_MONDAY = 1,
-    ODL_TUESDAY = 2,
-    ODL_WEDNESDAY = 3,
-    ODL_THURSDAY = 4,
-    ODL_FRIDAY = 5,
-    ODL_SATURDAY = 6,
-    ODL_SUNDAY = 7,
-    ODL_UNDATED = 8
+/* Where each counter stands in the counts. */
+enum odl_counts {
+    ODL_AT_MONDAY = 0,
+    ODL_AT_TUESDAY = 1,
+    ODL_AT_WEDNESDAY = 2,
+    ODL_AT_THURSDAY = 3,
+    ODL_AT_FRIDAY = 4,
+    ODL_AT_SATURDAY = 5,
+    ODL_AT_SUNDAY = 6,
+    ODL_AT_UNDATED = 7
 };
 
 /* Reads a label into a table. Codes 0 to 11. On 0 the table stands in the
@@ -228,28 +211,17 @@ void odl_name(const uint8_t *label, size_t label_len,
  * all blocks decides, whatever comes after it. The session is undated if there
  * is none, or if its value is not a single one with a date: a time alone, a
  * text, a sequence or set, of one date too.
- * Codes 0 to 11, 16 and 24. 24 goes before all others, whatever the label: the
- * counts do not bear out the book's busiest day. 0 to 11 are those of odl_read
- * for this label and room, with its *place and *length. On 0 exactly one counter
- * is one more, the others are as they were, the busiest day is kept right, and
- * the table stands in the room as odl_read leaves it. 16 comes after all of
- * them: the book is full, but the label is right and its table fits the room. So
- * with a full book too a label that is refused has its own code, and one whose
- * table does not fit 11. On 16 and 24 *place and *length are 0. On any code but
- * 0 the book is as it was, and all of the room untouched. */
+ * Codes 0 to 11 and 16. 0 to 11 are those of odl_read for this label and room,
+ * with its *place and *length. On 0 exactly one counter is one more, the others
+ * are as they were, and the table stands in the room as odl_read leaves it. 16
+ * comes after all of them: the book is full, but the label is right and its
+ * table fits the room. *place and *length are then 0. So with a full book too a
+ * label that is refused has its own code, and one whose table does not fit 11.
+ * On any code but 0 the book is as it was, and all of the room untouched. */
 uint8_t odl_take(struct odl_book *book,
                  const uint8_t *label, size_t label_len,
                  uint8_t *table, size_t table_len,
                  size_t *place, size_t *length);
-
-/* Takes a session back, by its counter's number: 1 Monday to 7 Sunday and 8
- * undated, as in enum odl_counter. A full book may be taken back from.
- * On 0 that counter is one less, the others are as they were, and the busiest
- * day is kept right: from the empty book on, the eight counts sum to the sessions
- * taken less the sessions taken back. Refusals, in this order: 24 if the counts
- * do not bear out the book's busiest day, 23 if no counter has that number, 22 if
- * that counter is already zero. The book is then as it was. */
-uint8_t odl_take_back(struct odl_book *book, size_t counter);
 
 #ifdef __cplusplus
 }

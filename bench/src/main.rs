@@ -52,11 +52,15 @@ fn time_taking(name: &str, label: &[u8]) {
     let mut room = vec![0; 5 * label.len()];
     let mut other_room = room.clone();
     let timed = take_turns(
-        || odl::raw::take(&mut Default::default(), black_box(label), &mut room).code,
         || {
-            let mut book = odl_model::book::Book::EMPTY;
-            odl_model::take(&mut book, black_box(label), &mut other_room).code
+            odl::raw::take(
+                &mut odl::raw::Book { counts: [0; 8] },
+                black_box(label),
+                &mut room,
+            )
+            .code
         },
+        || odl_model::take(&mut [0; 8], black_box(label), &mut other_room).code,
     );
     report("take", name, label.len(), timed);
 }

@@ -31,19 +31,15 @@ the camera's own label: the canonical one has a zone with every time.
 
 `relabel` gives the canonical label, and `same` tells whether two labels mean
 the same, whatever their layout. A `Book` counts sessions by the weekday of their
-START_TIME, and keeps the busiest weekday:
+START_TIME:
 
     book = odl.Book()
     for label in labels:
         book.take(label)
-    book.take_back("Friday")
-    book.counts["Sunday"], book.busiest
+    book.counts["Sunday"]
 
-`book.numbers` are nine numbers to keep it by, and `odl.Book.from_numbers` goes on
-from them.
-
-All raise `OdlError` with code, place and reason for what is refused, `same` also
-with which of the two labels it is; nothing is guessed.
+All raise `OdlError` with code, place and reason for a label that is refused,
+`same` also with which of the two it is; nothing is guessed.
 
 The library is `target/libodl.so` at the project's root, made by the script
 `build` beside this file, or the file that ODL_LIBRARY names.
@@ -53,11 +49,10 @@ import ctypes
 import datetime
 import decimal
 import enum
-import operator
 import os
 import threading
 from dataclasses import dataclass
-from typing import Any, Dict, Iterable, List, Mapping, Optional, Tuple, Union
+from typing import Any, Dict, List, Mapping, Optional, Tuple, Union
 
 __all__ = [
     "Attribute",
@@ -96,9 +91,6 @@ REASONS = {
     14: "no attribute of that name",
     15: "not the offset of a row that is asked for",
     16: "the book is full",
-    22: "that counter is already zero",
-    23: "no counter has that number",
-    24: "the counts do not bear out the book's busiest weekday",
 }
 
 COUNTERS = (
@@ -114,9 +106,9 @@ COUNTERS = (
 
 
 class OdlError(ValueError):
-    """A call was refused: `code`, `place` in the label, 0 if it is the book that
-    refuses (codes from 16 on), and `reason`. Where two labels were given, `label`
-    is "first" or "second", else None."""
+    """A label was refused: `code`, `place` in the label, 0 if it is the book that
+    is full, and `reason`. Where two labels were given, `label` is "first" or
+    "second", else None."""
 
     def __init__(self, code: int, place: int):
         super().__init__(code, place)
@@ -286,60 +278,26 @@ def same(a: bytes, b: bytes) -> bool:
 
 class Book:
     """Counts sessions by weekday: `counts` has a number for each of Monday to
-    Sunday, and for undated; `busiest` is the name of the busiest weekday.
+    Sunday, and for undated. `Book()` is empty; `Book(counts)` goes on from counts
+    that were kept, where a name left out is 0.
 
-    `Book()` is empty, and `Book.from_numbers(numbers)` goes on from `numbers` that
-    were kept. `Book(counts)` goes on from counts alone, where a name left out is 0,
-    and works the busiest weekday out.
-
-    A book may be shared by threads. Where counts and busiest weekday have to fit,
-    ask for `numbers`: between `counts` and `busiest` the book may have changed."""
+    A book may be shared by threads."""
 
     def __init__(self, counts: Optional[Mapping[str, int]] = None):
         counts = {**dict.fromkeys(COUNTERS, 0), **({} if counts is None else counts)}
-        for name in counts:
+        for name, number in counts.items():
             if name not in COUNTERS:
                 raise ValueError(f"no counter: {name}")
-        counts = _Counts(*_of_32_bits(counts.values()))
-        # None is the busiest, or one of the seven: the library tells which.
-        books = (_Book(counts, day) for day in range(8))
-        self._book = next(book for book in books if _borne_out(book))
+            if not 0 <= number < 2**32:
+                raise ValueError(f"a count is from 0 to 4294967295, not {number}")
+        self._book = _Book(_Counts(*counts.values()))
         self._lock = threading.Lock()
-
-    @classmethod
-    def from_numbers(cls, numbers: Iterable[int]) -> "Book":
-        """The book that was kept as these `numbers`. Raises with code 24 if the counts
-        do not bear out its busiest weekday: then they are not those of any book."""
-        numbers = _of_32_bits(numbers)
-        if len(numbers) != len(COUNTERS) + 1:
-            raise ValueError(f"a book has nine numbers, not {len(numbers)}")
-        *counts, day = numbers
-        book = cls(dict(zip(COUNTERS, counts)))
-        book._book.busiest = day
-        if not _borne_out(book._book):
-            raise OdlError(_NOT_BORNE_OUT, 0)
-        return book
-
-    @property
-    def numbers(self) -> List[int]:
-        """The book as nine numbers, to be kept: the counts, Monday first and undated
-        last, and the number of the busiest weekday, 0 for none."""
-        with self._lock:
-            return [*self._book.counts, self._book.busiest]
 
     @property
     def counts(self) -> Dict[str, int]:
         """The number of each counter by its name, Monday first, undated last."""
         with self._lock:
             return dict(zip(COUNTERS, self._book.counts))
-
-    @property
-    def busiest(self) -> Optional[str]:
-        """The weekday with the largest count, the earliest from Monday among equals;
-        None when all seven are zero. Undated sessions never are the busiest."""
-        with self._lock:
-            day = self._book.busiest
-        return COUNTERS[day - 1] if day else None
 
     def take(self, data: bytes) -> str:
         """Reads a label and counts its session under the weekday of the first
@@ -357,18 +315,6 @@ class Book:
         (name,) = (name for name, old, more in zip(COUNTERS, before, after) if old != more)
         return name
 
-    def take_back(self, counter: Union[str, int]) -> None:
-        """Takes a session back, by its counter's name, or by its number: 1 Monday to
-        7 Sunday, 8 undated. A full book may be taken back from.
-
-        Raises with code 23 if no counter has the number, and with 22 if the counter
-        is already zero. The book then stays as it is."""
-        number = _number(counter)
-        with self._lock:
-            code = _library.odl_take_back(self._book, number)
-        if code != 0:
-            raise OdlError(code, 0)
-
     def __eq__(self, other):
         return self.counts == other.counts if isinstance(other, Book) else NotImplemented
 
@@ -385,7 +331,7 @@ _Counts = ctypes.c_uint32 * len(COUNTERS)
 class _Book(ctypes.Structure):
     """The book as the library has it."""
 
-    _fields_ = [("counts", _Counts), ("busiest", ctypes.c_uint32)]
+    _fields_ = [("counts", _Counts)]
 
 
 def _load():
@@ -410,40 +356,11 @@ def _load():
         function = getattr(library, name)
         function.argtypes = handed + room + [number, number]
         function.restype = ctypes.c_uint8
-    library.odl_take_back.argtypes = book + [ctypes.c_size_t]
-    library.odl_take_back.restype = ctypes.c_uint8
     return library
 
 
 _library = _load()
-_ROOM_TOO_SHORT, _NOT_BORNE_OUT = 11, 24
-
-
-def _number(counter):
-    """The number of a counter, by its name or as it is. One that no counter has
-    becomes 9: ctypes would take a large one modulo a power of two."""
-    if isinstance(counter, str):
-        if counter not in COUNTERS:
-            raise ValueError(f"no counter: {counter}")
-        return COUNTERS.index(counter) + 1
-    number = operator.index(counter)
-    return number if 0 <= number <= len(COUNTERS) else len(COUNTERS) + 1
-
-
-def _of_32_bits(numbers):
-    """A list of these numbers of a book. ctypes would take one that is too large
-    modulo a power of two."""
-    numbers = [operator.index(number) for number in numbers]
-    for number in numbers:
-        if not 0 <= number < 2**32:
-            raise ValueError(f"a number of a book is from 0 to 4294967295, not {number}")
-    return numbers
-
-
-def _borne_out(book):
-    """Whether the counts bear out the busiest weekday. No counter has the number 0,
-    so the library judges nothing else."""
-    return _library.odl_take_back(book, 0) != _NOT_BORNE_OUT
+_ROOM_TOO_SHORT = 11
 
 
 def _call(size, call):

@@ -50,8 +50,7 @@ def value(written):
 
 
 def listed(file):
-    """Name and label of each example in the list, or whatever stands there, and the
-    fields behind them."""
+    """Name and label of each example in the list, and what stands behind them."""
     escapes = {b"n": b"\n", b"r": b"\r", b"t": b"\t", b'"': b'"'}
 
     def byte(match):
@@ -639,171 +638,6 @@ class Books(unittest.TestCase):
         self.assertEqual((book, wrong), (odl.Book({"undated": 400, "Sunday": 400}), []))
 
 
-def numbered(counts):
-    """Counts by name, from eight numbers."""
-    return dict(zip(odl.COUNTERS, counts))
-
-
-class TakingBack(unittest.TestCase):
-    def refused(self, book, counter, code):
-        """The taking back is refused, and the book unchanged."""
-        before = book.counts, book.busiest
-        with self.assertRaises(odl.OdlError) as caught:
-            book.take_back(counter)
-        self.assertEqual((caught.exception.code, caught.exception.place), (code, 0))
-        self.assertEqual((book.counts, book.busiest), before)
-        return caught.exception
-
-    def test_each_counter_by_name_and_by_number(self):
-        before = numbered([10, 2000, 3, 1, 50000, 6, 70, 81])
-        for number, name in enumerate(odl.COUNTERS, 1):
-            for counter in (name, number):
-                book = odl.Book(before)
-                self.assertIsNone(book.take_back(counter))
-                self.assertEqual(book.counts, {**before, name: before[name] - 1})
-                self.assertEqual(book.busiest, "Friday")
-
-    def test_a_counter_that_is_zero(self):
-        for name in odl.COUNTERS:
-            self.refused(odl.Book(), name, 22)
-            self.refused(odl.Book({**dict.fromkeys(odl.COUNTERS, 2), name: 0}), name, 22)
-        error = self.refused(odl.Book({"Monday": 1}), "Sunday", 22)
-        self.assertEqual(str(error), "code 22 at 0: that counter is already zero")
-
-    def test_no_counters(self):
-        for book in [odl.Book(), odl.Book(dict.fromkeys(odl.COUNTERS, 3))]:
-            for number in [0, 9, -1, -7, 257, 2**32 + 1, 2**64 - 1, 2**64, 2**64 + 1, 1 - 2**64]:
-                error = self.refused(book, number, 23)
-                self.assertEqual(error.reason, "no counter has that number")
-            for name in ["sunday", "", "none"]:
-                with self.assertRaises(ValueError):
-                    book.take_back(name)
-            for wrong in [1.0, None, b"Sunday", ["Sunday"]]:
-                with self.assertRaises(TypeError):
-                    book.take_back(wrong)
-
-    def test_a_full_book(self):
-        book = odl.Book({"Saturday": 500000, "Sunday": 500000})
-        book.take_back("Saturday")
-        self.assertEqual(book.busiest, "Sunday")
-        self.assertEqual(book.take(b"START_TIME=1979-07-09 END"), "Monday")
-        with self.assertRaises(odl.OdlError) as caught:
-            book.take(b"END")
-        self.assertEqual(caught.exception.code, 16)
-
-    def test_threads(self):
-        def work():
-            for _ in range(200):
-                book.take(b"START_TIME=1979-07-08 END")
-                book.take_back("Sunday")
-
-        book = odl.Book({"Sunday": 5, "Monday": 5})
-        threads = [threading.Thread(target=work) for _ in range(4)]
-        for thread in threads:
-            thread.start()
-        for thread in threads:
-            thread.join()
-        self.assertEqual(book, odl.Book({"Sunday": 5, "Monday": 5}))
-        self.assertEqual(book.busiest, "Monday")
-
-
-class Busiest(unittest.TestCase):
-    BORNE_OUT = [
-        ([0, 0, 0, 0, 0, 0, 0, 0], None),
-        ([0, 0, 0, 0, 0, 0, 0, 9], None),
-        ([1, 0, 0, 0, 0, 0, 0, 9], "Monday"),
-        ([0, 0, 0, 0, 0, 0, 1, 9], "Sunday"),
-        ([1, 2, 3, 4, 5, 6, 7, 8], "Sunday"),
-        ([5, 5, 5, 5, 5, 5, 5, 5], "Monday"),
-        ([2, 3, 3, 0, 0, 0, 0, 0], "Tuesday"),
-        ([0, 0, 0, 4, 4, 4, 4, 9], "Thursday"),
-        ([0, 2**31 - 1, 0, 0, 2**31, 0, 0, 0], "Friday"),
-        ([2**32 - 1] * 8, "Monday"),
-    ]
-
-    def test_worked_out_from_counts(self):
-        self.assertIsNone(odl.Book().busiest)
-        for counts, busiest in self.BORNE_OUT:
-            book = odl.Book(numbered(counts))
-            self.assertEqual(book.busiest, busiest)
-            for copied in [copy.copy(book), pickle.loads(pickle.dumps(book))]:
-                self.assertEqual(copied.busiest, busiest)
-        with self.assertRaises(AttributeError):
-            book.busiest = "Sunday"
-
-    def test_numbers(self):
-        for counts, busiest in self.BORNE_OUT:
-            numbers = [*counts, odl.COUNTERS.index(busiest) + 1 if busiest else 0]
-            book = odl.Book(numbered(counts))
-            self.assertEqual(book.numbers, numbers)
-            for kept in (numbers, tuple(numbers), iter(numbers)):
-                back = odl.Book.from_numbers(kept)
-                self.assertEqual((back, back.numbers), (book, numbers))
-                self.assertEqual((back.counts, back.busiest), (numbered(counts), busiest))
-        with self.assertRaises(AttributeError):
-            book.numbers = numbers
-        book.numbers[0] = 7
-        self.assertEqual(book.numbers, numbers)
-
-    def test_numbers_with_a_false_day(self):
-        for counts, busiest in self.BORNE_OUT:
-            number = odl.COUNTERS.index(busiest) + 1 if busiest else 0
-            for day in {*range(10), number + 256, number + 2**31, 2**32 - 1} - {number}:
-                with self.assertRaises(odl.OdlError) as caught:
-                    odl.Book.from_numbers([*counts, day])
-                self.assertEqual((caught.exception.code, caught.exception.place), (24, 0))
-        reason = "the counts do not bear out the book's busiest weekday"
-        self.assertEqual(str(caught.exception), f"code 24 at 0: {reason}")
-
-    def test_numbers_that_no_book_has(self):
-        places = [(at, wrong) for at in range(9) for wrong in (-1, 2**32, 2**64)]
-        out_of_range = [[0] * at + [wrong] + [0] * (8 - at) for at, wrong in places]
-        for numbers in [[], [0], [0] * 8, [0] * 10, *out_of_range]:
-            with self.assertRaises(ValueError) as caught:
-                odl.Book.from_numbers(numbers)
-            self.assertNotIsInstance(caught.exception, odl.OdlError)
-        for numbers in [None, 0, "0" * 9, [0.0] * 9, [None] * 9, [0] * 8 + ["0"], {"Sunday": 1}]:
-            with self.assertRaises(TypeError):
-                odl.Book.from_numbers(numbers)
-
-    def test_numbers_of_a_shared_book_fit(self):
-        # As if another thread changed the book as soon as its lock is given back.
-        book, lock = odl.Book({"Sunday": 5, "Monday": 5}), unittest.mock.MagicMock()
-        lock.__exit__.side_effect = lambda *_: setattr(book, "_book", odl.Book()._book)
-        with unittest.mock.patch.object(book, "_lock", lock):
-            self.assertEqual(book.numbers, [5, 0, 0, 0, 0, 0, 5, 0, 1])
-        lock.__enter__.assert_called_once_with()
-
-    def test_history(self):
-        days = dict(zip(odl.COUNTERS, [b"09", b"10", b"11", b"12", b"13", b"14", b"15"]))
-        book = odl.Book()
-        for step, name, busiest in [
-            ("take", "undated", None),
-            ("take", "Sunday", "Sunday"),
-            ("take", "Saturday", "Saturday"),
-            ("take", "Sunday", "Sunday"),
-            ("take", "Saturday", "Saturday"),
-            ("take", "undated", "Saturday"),
-            ("take", "undated", "Saturday"),
-            ("take", "Monday", "Saturday"),
-            ("take", "Monday", "Monday"),
-            ("back", "Monday", "Saturday"),
-            ("back", "Saturday", "Sunday"),
-            ("back", "Sunday", "Monday"),
-            ("back", "Monday", "Saturday"),
-            ("back", "undated", "Saturday"),
-            ("back", "Saturday", "Sunday"),
-            ("back", "Sunday", None),
-        ]:
-            if step == "back":
-                book.take_back(name)
-            else:
-                value = b"1979-07-" + days[name] if name in days else b"10:00"
-                self.assertEqual(book.take(b"START_TIME=" + value + b" END"), name)
-            self.assertEqual(book.busiest, busiest)
-        self.assertEqual(book, odl.Book({"undated": 2}))
-
-
 class Listed(unittest.TestCase):
     def test_answers(self):
         count = 0
@@ -819,61 +653,24 @@ class Listed(unittest.TestCase):
                     self.assertEqual((error.code, error.place), (code, place))
         self.assertGreater(count, 200)
 
-    def book(self, before, code):
-        """The book of these nine numbers; none if their day is false, which the code
-        has to say."""
-        numbers = [0] * 9 if before == "empty" else map(int, before.split())
-        try:
-            book = odl.Book.from_numbers(numbers)
-            self.assertNotEqual(code, 24)
-            return book
-        except odl.OdlError as error:
-            self.assertEqual((error.code, error.place), (code, 0))
-            return None
-
-    def after(self, book, counts, busiest):
-        """The book has these counts and this busiest day."""
-        self.assertEqual(book.counts, counts)
-        self.assertEqual(book.busiest, odl.COUNTERS[int(busiest) - 1] if int(busiest) else None)
-
     def test_sessions(self):
         count = 0
-        for name, label, (room, before, answer, counter, day, _) in listed("sessions.txt"):
+        for name, label, (room, before, answer, counter, _) in listed("sessions.txt"):
             if room != "ample":
                 continue  # A taking has all the room that it needs.
             code, place, _ = map(int, answer.split())
+            counts = [0] * 8 if before == "empty" else map(int, before.split())
+            counts = dict(zip(odl.COUNTERS, counts))
+            book = odl.Book(counts)
             with self.subTest(name):
                 count += 1
-                book = self.book(before, code)
-                if book is None:
-                    continue
-                counts = book.counts
                 try:
                     self.assertEqual(book.take(label), counter)
                     self.assertEqual(code, 0)
                     counts[counter] += 1
                 except odl.OdlError as error:
                     self.assertEqual((error.code, error.place), (code, place))
-                self.after(book, counts, day)
-        self.assertGreater(count, 100)
-
-    def test_takings_back(self):
-        count = 0
-        for name, before, (number, answer, day, _) in listed("takings_back.txt"):
-            number, code = int(number), int(answer)
-            with self.subTest(name):
-                count += 1
-                book = self.book(before.decode(), code)
-                if book is None:
-                    continue
-                counts = book.counts
-                try:
-                    book.take_back(number)
-                    self.assertEqual(code, 0)
-                    counts[odl.COUNTERS[number - 1]] -= 1
-                except odl.OdlError as error:
-                    self.assertEqual((error.code, error.place), (code, 0))
-                self.after(book, counts, day)
+                self.assertEqual(book.counts, counts)
         self.assertGreater(count, 100)
 
 
@@ -898,24 +695,11 @@ class Weekdays(unittest.TestCase):
         status, files, lines = run(weekdays, labels)
         self.assertEqual(status, 1)
         self.assertEqual([line.split()[-1] for line in lines[:8]], list("00000011"))
-        self.assertEqual(lines[8], "busiest: Sunday")
         self.assertEqual(
-            lines[9], f"refused {files[2]}: code 9 at 0: END without spacing or a line end after it"
+            lines[8], f"refused {files[2]}: code 9 at 0: END without spacing or a line end after it"
         )
-        self.assertTrue(lines[10].startswith(f"refused {files[3]}: "))
-        self.assertEqual(len(lines), 11)
-
-    def test_the_busiest_weekday(self):
-        saturday, sunday = (b"START_TIME=1979-07-%02d END" % day for day in (7, 8))
-        for labels, expected in [
-            ([], "none"),
-            ([b"END", b"END"], "none"),
-            ([b"END", b"END", sunday], "Sunday"),
-            ([sunday, saturday], "Saturday"),
-            ([sunday, saturday, sunday], "Sunday"),
-        ]:
-            status, _, lines = run(weekdays, labels)
-            self.assertEqual((status, lines[8:]), (0, [f"busiest: {expected}"]))
+        self.assertTrue(lines[9].startswith(f"refused {files[3]}: "))
+        self.assertEqual(len(lines), 10)
 
     def test_a_full_book_is_a_refusal_as_any_other(self):
         book = odl.Book({"Monday": 999999})
@@ -924,9 +708,8 @@ class Weekdays(unittest.TestCase):
         self.assertEqual(status, 1)
         self.assertEqual(lines[0].split(), ["Monday", "999999"])
         self.assertEqual(lines[7].split(), ["undated", "1"])
-        self.assertEqual(lines[8], "busiest: Monday")
-        self.assertEqual(lines[9], f"refused {files[1]}: code 16 at 0: the book is full")
-        self.assertTrue(lines[10].startswith(f"refused {files[2]}: code 9 at 0: "))
+        self.assertEqual(lines[8], f"refused {files[1]}: code 16 at 0: the book is full")
+        self.assertTrue(lines[9].startswith(f"refused {files[2]}: code 9 at 0: "))
 
 
 class ZonesOfSessions(unittest.TestCase):

@@ -1,13 +1,11 @@
-"""Counts labels by the weekday of their START_TIME, as written, and names the
-busiest weekday.
+"""Counts labels by the weekday of their START_TIME, as written.
 
     python3 weekdays.py LABEL...
 
 Undated labels (no START_TIME outside all blocks, or one that is not a single
-value with a date) are counted apart. The busiest is the earliest from Monday among
-equals, and `none` where no label went under a weekday. Files that are refused are
-listed with their reason, counted nowhere, and make the program end with status 1:
-also a right one once 1,000,000 are counted, for then the book is full.
+value with a date) are counted apart. Files that are refused are listed with their
+reason, counted nowhere, and make the program end with status 1: also a right
+one once 1,000,000 are counted, for then the book is full.
 """
 
 import sys
@@ -21,7 +19,6 @@ def main(files) -> int:
     _, refused = sessions.ask(files, book.take)
     for name, count in book.counts.items():
         print(f"{name:<10}{count:>8}")
-    print(f"busiest: {book.busiest or 'none'}")
     return sessions.end(refused)
 
 

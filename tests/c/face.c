@@ -1,7 +1,7 @@
 /* Calls the functions on labels and tables through include/odl.h: the header's
  * numbers, the answers and the lent room against values worked out by hand from
  * the documents. Each number of the header comes back from a real call; those
- * of the session book in book.c and back.c. */
+ * of the session book in book.c. */
 #include "checks.h"
 #include "refusals.h"
 

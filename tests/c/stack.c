@@ -59,11 +59,6 @@ static void *taking(void *unused) {
     return unused;
 }
 
-static void *taking_back(void *unused) {
-    code = odl_take_back(&book, ODL_SUNDAY);
-    return unused;
-}
-
 static void stop(const char *what) {
     printf("failed: %s\n0 passed, 1 failed\n", what);
     exit(EXIT_FAILURE);
@@ -140,21 +135,9 @@ static void measure(const char *name, const char *shape, void *(*call)(void *), 
 static void measure_takings(const char *shape, uint8_t reads_with) {
     memset(&book, 0, sizeof book);
     measure("odl_take", shape, taking, reads_with);
-    book.counts[ODL_MONDAY - 1] = ODL_MOST_SESSIONS;
-    book.busiest = ODL_MONDAY;
+    book.counts[ODL_AT_MONDAY] = ODL_MOST_SESSIONS;
     measure("odl_take with a full book", shape, taking,
             reads_with == ODL_ACCEPTED ? ODL_BOOK_FULL : reads_with);
-}
-
-/* The only dated session taken back, so that all seven counts are looked at and
- * none is the busiest; and a taking back where the busiest day is false. */
-static void measure_taking_back(void) {
-    static const struct odl_book before = {{0, 0, 0, 0, 0, 0, 1, 9}, ODL_SUNDAY};
-    book = before;
-    measure("odl_take_back", "the busiest day", taking_back, ODL_ACCEPTED);
-    book = before;
-    book.busiest = ODL_NO_DAY;
-    measure("odl_take_back", "a false day", taking_back, ODL_NOT_BORNE_OUT);
 }
 
 /* All calls over the label as it stands. Rows of the table are a block or an
@@ -176,8 +159,6 @@ static void measure_all(const char *shape, uint8_t reads_with, uint8_t writes_wi
 }
 
 int main(void) {
-    /* The first thread takes more: what is set up once. */
-    touched(nothing);
     base = touched(nothing);
     nest();
     measure_all("80 blocks", ODL_ACCEPTED, ODL_ACCEPTED, 80 * 5 + 5, ODL_ACCEPTED);
@@ -205,7 +186,6 @@ int main(void) {
     measure_all("many reals", ODL_ACCEPTED, ODL_ACCEPTED, 0, ODL_NAME_ABSENT);
     fill("", "A=-12.5E-3<M> ", 3000, "START_TIME=9999-365T23:59:59.999999999-12:59 END");
     measure_takings("a late START_TIME", ODL_ACCEPTED);
-    measure_taking_back();
     printf("the most stack that a call took: %zu bytes of %d\n", most, PROMISED);
     if (most < 1024) {
         stop("the paint does not tell");

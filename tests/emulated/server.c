@@ -60,24 +60,21 @@ static struct buffer buffer_at(const uint8_t **at) {
     return b;
 }
 
-/* `which` is the row or the counter. */
-static uint8_t answer(int call, size_t which, const struct buffer *b, size_t *first, size_t *second) {
+static uint8_t answer(int call, size_t row, const struct buffer *b, size_t *first, size_t *second) {
     switch (call) {
     case CALL_READ:
         return odl_read(b[0].bytes, b[0].length, b[1].bytes, b[1].length, first, second);
     case CALL_WRITE:
         return odl_write(b[0].bytes, b[0].length, b[1].bytes, b[1].length, b[2].bytes, b[2].length, first, second);
     case CALL_TEXT:
-        return odl_text(b[0].bytes, b[0].length, b[1].bytes, b[1].length, which, b[2].bytes, b[2].length, first, second);
+        return odl_text(b[0].bytes, b[0].length, b[1].bytes, b[1].length, row, b[2].bytes, b[2].length, first, second);
     case CALL_FIND:
-        return odl_find(b[0].bytes, b[0].length, b[1].bytes, b[1].length, b[2].bytes, b[2].length, which, first, second);
+        return odl_find(b[0].bytes, b[0].length, b[1].bytes, b[1].length, b[2].bytes, b[2].length, row, first, second);
     case CALL_NAME:
-        odl_name(b[0].bytes, b[0].length, b[1].bytes, b[1].length, which, first, second);
+        odl_name(b[0].bytes, b[0].length, b[1].bytes, b[1].length, row, first, second);
         return 0;
     case CALL_TAKE:
         return odl_take((struct odl_book *)b[0].bytes, b[1].bytes, b[1].length, b[2].bytes, b[2].length, first, second);
-    case CALL_TAKE_BACK:
-        return odl_take_back((struct odl_book *)b[0].bytes, which);
     default:
         _exit(1);
     }
@@ -108,11 +105,11 @@ static void serve(const uint8_t *at) {
     struct buffer b[MOST_BUFFERS];
     size_t first = (size_t)-1, second = (size_t)-1;
     int call = *at++, count = buffers_of[call];
-    size_t row_or_counter = number(&at);
+    size_t row = number(&at);
     for (int i = 0; i < count; i++) {
         b[i] = buffer_at(&at);
     }
-    uint8_t code = answer(call, row_or_counter, b, &first, &second);
+    uint8_t code = answer(call, row, b, &first, &second);
     reply(code, first, second, b, count);
     for (int i = 0; i < count; i++) {
         free(b[i].bytes);

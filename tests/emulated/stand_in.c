@@ -76,7 +76,7 @@ static uint8_t *put(uint8_t *to, const void *from, size_t count) {
     return to + count;
 }
 
-static void ask(int call, uint64_t row_or_counter, const struct buffer *b) {
+static void ask(int call, uint64_t row, const struct buffer *b) {
     uint64_t size = 1 + 8;
     for (int i = 0; i < buffers_of[call]; i++) {
         size += 1 + 1 + 8 + b[i].length;
@@ -85,7 +85,7 @@ static void ask(int call, uint64_t row_or_counter, const struct buffer *b) {
     if (request == NULL) {
         fail("malloc");
     }
-    uint8_t *at = put(put(put(request, &size, 8), &number, 1), &row_or_counter, 8);
+    uint8_t *at = put(put(put(request, &size, 8), &number, 1), &row, 8);
     for (int i = 0; i < buffers_of[call]; i++) {
         const uint8_t flags[] = {b[i].bytes == NULL, b[i].back != NULL};
         uint64_t length = b[i].length;
@@ -95,13 +95,13 @@ static void ask(int call, uint64_t row_or_counter, const struct buffer *b) {
     free(request);
 }
 
-static uint8_t hand_on(int call, size_t row_or_counter, const struct buffer *b, size_t *first, size_t *second) {
+static uint8_t hand_on(int call, size_t row, const struct buffer *b, size_t *first, size_t *second) {
     uint8_t head[ANSWER_HEAD];
     uint64_t results[2];
     if (to_server < 0) {
         start();
     }
-    ask(call, row_or_counter, b);
+    ask(call, row, b);
     take(head, sizeof head);
     for (int i = 0; i < buffers_of[call]; i++) {
         if (b[i].back != NULL) {
@@ -146,15 +146,7 @@ void odl_name(const uint8_t *label, size_t label_len, const uint8_t *table, size
 
 uint8_t odl_take(struct odl_book *book, const uint8_t *label, size_t label_len, uint8_t *table, size_t table_len,
                  size_t *place, size_t *length) {
-    uint8_t *numbers = (uint8_t *)book;
-    const struct buffer b[] = {{numbers, sizeof *book, numbers}, {label, label_len, NULL}, {table, table_len, table}};
+    uint8_t *counts = (uint8_t *)book;
+    const struct buffer b[] = {{counts, sizeof *book, counts}, {label, label_len, NULL}, {table, table_len, table}};
     return hand_on(CALL_TAKE, 0, b, place, length);
-}
-
-/* It has no results but the code. */
-uint8_t odl_take_back(struct odl_book *book, size_t counter) {
-    uint8_t *numbers = (uint8_t *)book;
-    const struct buffer b[] = {{numbers, sizeof *book, numbers}};
-    size_t unset[2];
-    return hand_on(CALL_TAKE_BACK, counter, b, &unset[0], &unset[1]);
 }

@@ -20,13 +20,10 @@ pub enum Code {
     NameAbsent = 14,
     NoSuchRow = 15,
     BookFull = 16,
-    AlreadyZero = 22,
-    NoCounter = 23,
-    NotBorneOut = 24,
 }
 
 impl Code {
-    const ALL: [Code; 19] = [
+    const ALL: [Code; 16] = [
         Code::LabelTooLong,
         Code::BadByte,
         Code::LeftOpen,
@@ -43,12 +40,9 @@ impl Code {
         Code::NameAbsent,
         Code::NoSuchRow,
         Code::BookFull,
-        Code::AlreadyZero,
-        Code::NoCounter,
-        Code::NotBorneOut,
     ];
 
-    /// The code of this number; none for one that no refusal has, such as 0.
+    /// The code of this number; none for 0, which is no refusal.
     pub fn from_number(number: u8) -> Option<Code> {
         Code::ALL.into_iter().find(|&code| code as u8 == number)
     }
@@ -76,9 +70,6 @@ impl Code {
             Code::NameAbsent => "no attribute of that name",
             Code::NoSuchRow => "not the offset of a row that is asked for",
             Code::BookFull => "the book is full",
-            Code::AlreadyZero => "that counter is already zero",
-            Code::NoCounter => "no counter has that number",
-            Code::NotBorneOut => "the counts do not bear out the book's busiest weekday",
         }
     }
 }

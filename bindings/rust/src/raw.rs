@@ -1,6 +1,6 @@
 //! The library's own calls: lent room, and numbers for answers.
 //!
-//! Any bytes may be handed in, and any numbers of a book. The lent room is
+//! Any bytes may be handed in, and any counts of a book. The lent room is
 //! untouched beyond the reported length, and on every code but 0 all of it and
 //! the book.
 
@@ -32,9 +32,6 @@ pub struct Found {
 pub struct Book {
     /// Sessions on each weekday, Monday first, and undated ones last.
     pub counts: [u32; 8],
-    /// The busiest weekday, 1 Monday to 7 Sunday, or 0 for none. Where the
-    /// counts do not bear it out, every call on the book answers 24.
-    pub busiest: u32,
 }
 
 mod face {
@@ -99,7 +96,6 @@ mod face {
             place: *mut usize,
             length: *mut usize,
         ) -> u8;
-        pub fn odl_take_back(book: *mut Book, counter: usize) -> u8;
     }
 }
 
@@ -234,11 +230,4 @@ pub fn take(book: &mut Book, label: &[u8], table: &mut [u8]) -> Answer {
         place,
         length,
     }
-}
-
-/// Takes a session back, by its counter's number: 1 Monday to 7 Sunday, 8
-/// undated. Tells the code; the place of each refusal is 0.
-pub fn take_back(book: &mut Book, counter: usize) -> u8 {
-    // SAFETY: as said above.
-    unsafe { face::odl_take_back(book, counter) }
 }

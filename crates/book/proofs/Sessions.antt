@@ -1,5 +1,5 @@
 -- The counter of a session, by the bytes of its label's table: the value behind START_TIME, and that there is none.
-use Prim.Native.Nat.{ℕ, ◌+◌, ◌*◌, ◌/◌, ◌%◌, ◌<◌}
+use Prim.Native.Nat.{ℕ, ◌+◌, ◌*◌, ◌/◌, ◌%◌, ◌≤◌, ◌<◌}
 use mathlib.Core.Path.{◌≡◌, refl, sym, ap, subst, ◌∙◌}
 use mathlib.Core.Bool.{cond}
 use mathlib.Core.List.{List, [], ◌∷◌, ◌++◌}
@@ -13,13 +13,14 @@ use Rattle.rules.specs.Proper.{Each, one}
 use Rattle.rules.specs.Table.{encode, table}
 use Rattle.rules.specs.Calendar.{weekday}
 use Rattle.rules.specs.Asked.{From, stands}
-use Rattle.rules.specs.Book.{date_of, undated, Counter, Under, no_start}
+use Rattle.rules.specs.Book.{date_of, undated, Under, no_start}
 use Rattle.rules.proofs.Machine.Limits.{Dated, MomentHeld, date_alone, time_alone, date_and_time, Valued}
 use Rattle.rules.proofs.Machine.Lookup.{from_of}
 use Rattle.rules.proofs.Tables.Tests.{cond-case}
 use Rattle.rules.proofs.Tables.OwnTable.{read_valued}
 use Rattle.rules.proofs.Tables.Seeking.{from_is, from_next, from_each}
 use Rattle.rules.proofs.Book.Counting.{dating_of, dating_in, under_date, under_by}
+use Rattle.rules.proofs.Book.Counters.{Counter}
 use Rattle.book.specs.Dates.{weekday_by}
 use Rattle.book.specs.Kinds.{counter_behind}
 use Rattle.book.specs.Sessions.{TableOf, StartsAt, nowhere, at_row, Counts}
@@ -102,7 +103,7 @@ module _ {label lent : List ℕ} where
   no_start_counts s e = go (subst (StartsAt label lent) e s)
     where
       go : StartsAt label lent Nowhere → Counts label lent 8
-      go (nowhere g) = record { is = λ rows t. no_start (g rows t); counter = of_undated }
+      go (nowhere g) = record { is = λ rows t. no_start (g rows t); from = omega arith; upto = omega arith }
 
   pub start_counts : {r : Start} {k n : ℕ} → StartsAt label lent r → r ≡ At k → n ≡ counter_behind lent k → Counts label lent n
   start_counts {k = k} {n = n} s e c = go (subst (StartsAt label lent) e s)
@@ -114,7 +115,8 @@ module _ {label lent : List ℕ} where
             let v = from_each (from_next o.3) (read_valued base label t.reads) in
             let q : under_date (dating_in (from_of k rows)) ≡ n = ap (λ (l : List Row). under_date (dating_in l)) (from_is o.3) ∙ sym (behind_counts o.1 o.2 v) ∙ sym (value_there t o.3) ∙ sym c in
             subst (Under label rows) q (under_by rows (stands k) o.0);
-        counter = subst Counter (sym c) (behind_range lent k);
+        from = subst (λ (i : ℕ). 1 ≤ i) (sym c) (behind_range lent k).from;
+        upto = subst (λ (i : ℕ). i ≤ 8) (sym c) (behind_range lent k).upto;
       }
 
 pub ruleset sessions = (start_inside, no_start_counts, start_counts, rules)

@@ -1,11 +1,11 @@
 -- What is found in the table of a label that was read: the row of START_TIME, and the counter of the session. Terms of private contracts.
-use Rattle.std.specs.Prelude.{ℕ, ◌<◌, ◌≡◌, List, ◌∷◌, length}
+use Rattle.std.specs.Prelude.{ℕ, ◌≤◌, ◌<◌, ◌≡◌, List, ◌∷◌, length}
 use Rattle.rules.specs.Data.{Span, Row, attribute}
 use Rattle.rules.specs.Modes.{base}
 use Rattle.rules.specs.Table.{table}
 use Rattle.rules.specs.Reading.{accepted, Reads}
 use Rattle.rules.specs.Asked.{From, stands, absent, Looks}
-use Rattle.rules.specs.Book.{start_time, Under, Counter}
+use Rattle.rules.specs.Book.{start_time, Under}
 use Rattle.book.specs.declared.Start.{Start}
 use Rattle.book.specs.declared.Start.TheVariants.{At, Nowhere}
 
@@ -25,4 +25,5 @@ pub data StartsAt (label lent : List ℕ) : Start → Type 0 where
 -- the counter that the session goes under
 pub record Counts (label lent : List ℕ) (n : ℕ) : Type 0 where
   pub is : (rows : List Row) → TableOf label lent rows → Under label rows n
-  pub counter : Counter n
+  pub from : 1 ≤ n
+  pub upto : n ≤ 8

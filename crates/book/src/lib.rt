@@ -1,7 +1,4 @@
-// The session book: a label is taken, and its session counted under the weekday of its START_TIME, or as undated; a session is taken back;
-// and the busiest weekday is kept.
-mod back; // back.rt: a session taken back
-mod busiest; // busiest.rt: the busiest weekday
+// The session book: a label is taken, and its session counted under the weekday of its START_TIME, or as undated.
 mod counts; // counts.rt: the eight counters
 mod dates; // dates.rt: the weekday of a date
 mod kinds; // kinds.rt: what the bytes of a table's rows tell
@@ -13,21 +10,18 @@ ghost use Rattle.statements.specs.Answer.{said};
 ghost use Rattle.book.specs.Answers.{book_of, said_of, TakenFull};
 ghost use Rattle.book.specs.Sessions.{StartsAt, Counts};
 
-pub use back::take_back;
-use busiest::{busiest_of, raised};
 use classes::part;
 use counts::{one_more, total};
 use kinds::{Way, counter_behind, is_start_time, row_length, way_of};
 use statements::{Reading, code_of, length_of, place_of, read};
 
-// Sessions on each weekday from Monday on, and undated ones last; and the busiest weekday, 1 Monday to 7 Sunday, 0 for none.
+// Sessions on each weekday from Monday on, and undated ones last.
 #[derive(Drop)]
 pub struct Book {
     pub counts: [u32; 8],
-    pub busiest: u32,
 }
 
-// What a taking or a taking back answers, and the book after it.
+// What a taking answers, and the book after it.
 #[derive(Drop)]
 pub struct Taken {
     pub book: Book,
@@ -39,15 +33,12 @@ pub struct Taken {
 // A book with so many sessions is full.
 const FULL: u64 = 1000000;
 
-// The refusals: a table longer than its room, which is the reader's; a full book; a book that names a busiest weekday which its counters do
-// not bear out.
+// The refusals: a table longer than its room, which is the reader's, and a full book.
 const NO_ROOM: u8 = 11;
 
 const BOOK_FULL: u8 = 16;
 
-const NOT_BORNE_OUT: u8 = 24;
-
-// The counter of undated sessions, which has the last number.
+// The counter of undated sessions.
 const UNDATED: usize = 8;
 
 // Where the row of START_TIME starts.
@@ -107,13 +98,13 @@ fn counter(label: &[u8], table: &[u8]) -> usize
     counter_behind(table, at)
 }
 
-// A refusal of the book's own: it stays as it was.
-fn refusal(book: Book, code: u8) -> Taken
-    ensures { (book_of result.book ≡ book_of book) × (said_of result ≡ says code 0 0) }
+// The refusal of a full book, which stays as it was.
+fn book_full(book: Book) -> Taken
+    ensures { (book_of result.book ≡ book_of book) × (said_of result ≡ says 16 0 0) }
 {
     Taken {
         book: book,
-        code: code,
+        code: BOOK_FULL,
         place: 0,
         length: 0,
     }
@@ -140,7 +131,7 @@ fn take_full(book: Book, label: &[u8], room: usize) -> Taken
     let code = code_of(r);
     // No table is empty, but an empty one would fit any room.
     if code == 0 {
-        return refusal(book, BOOK_FULL);
+        return book_full(book);
     }
     if code != NO_ROOM {
         return refused(book, r);
@@ -148,17 +139,13 @@ fn take_full(book: Book, label: &[u8], room: usize) -> Taken
     if room < length_of(r) {
         return refused(book, r);
     }
-    refusal(book, BOOK_FULL)
+    book_full(book)
 }
 
 pub fn take(book: Book, label: &[u8], table: &mut [u8]) -> Taken
     ensures { Takes (book_of book) label.now table.old (said_of result) (book_of result.book) table.new }
 {
     let counts = book.counts;
-    let day = book.busiest;
-    if busiest_of(counts) != day {
-        return refusal(book, NOT_BORNE_OUT);
-    }
     if FULL <= total(counts) {
         return take_full(book, label, table.len());
     }
@@ -172,7 +159,6 @@ pub fn take(book: Book, label: &[u8], table: &mut [u8]) -> Taken
     Taken {
         book: Book {
             counts: one_more(counts, k),
-            busiest: raised(counts, day, k),
         },
         code: 0,
         place: place_of(r),

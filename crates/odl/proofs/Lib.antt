@@ -1,4 +1,3 @@
 -- What the proofs of this crate share.
 pub mod Told
-pub mod Books
 pub mod Once

@@ -2,21 +2,17 @@
 use Prim.Native.Nat.{ℕ}
 use mathlib.Core.Path.{◌≡◌, ap}
 use mathlib.Core.List.{List}
-use lib.ListN.{length}
 use Rattle.rules.specs.Data as rule
 use Rattle.rules.specs.Modes.{base}
 use Rattle.rules.specs.Reading.{Said, Answered}
 use Rattle.rules.specs.Writing.{Writes}
 use Rattle.rules.specs.Asked.{says, Texted, Sought, Viewed}
-use Rattle.rules.specs.Book.{Takes, TakesBack}
+use Rattle.rules.specs.Book.{Book, book, Takes}
 use Rattle.rules.proofs.Reading.Reader.{answered_unique}
 use Rattle.rules.proofs.Written.Outcome.{writes_once}
 use Rattle.rules.proofs.Tables.Asked.{texted_once, viewed_once, sought_once}
 use Rattle.rules.proofs.Book.Takings.{taken_once}
-use Rattle.rules.proofs.Book.TakingsBack.{back_once}
 use Rattle.classes.specs.Places.{as_span}
-use Rattle.odl.specs.Books.{book_in}
-use Rattle.odl.proofs.Books.{same_words}
 
 numbers : {c p n c' p' n' : ℕ} → says c p n ≡ says c' p' n' → (c ≡ c') × (p ≡ p') × (n ≡ n')
 numbers e = (ap (λ (s : Said). s.code) e, ap (λ (s : Said). s.place) e, ap (λ (s : Said). s.size) e)
@@ -43,16 +39,9 @@ name_once {label} {lent} {row} a b =
     let u = viewed_once label lent row a b in
     (ap (λ (s : rule.Span). s.from) u, ap (λ (s : rule.Span). s.upto) u)
 
--- a book lent by C has nine numbers, by the call's type
-module _ (before : List ℕ) {after after' : List ℕ} (l : length after ≡ 9) (l' : length after' ≡ 9) where
-  pub take_once : {c p n c' p' n' : ℕ} {label room last last' : List ℕ} → Takes (book_in before) label room (says c p n) (book_in after) last →
-      Takes (book_in before) label room (says c' p' n') (book_in after') last' → ((c ≡ c') × (p ≡ p') × (n ≡ n')) × (after ≡ after') × (last ≡ last')
-  take_once {label = label} {room = room} a b =
-      let u = taken_once (book_in before) label room a b in
-      (numbers u.0, same_words after after' l l' u.1, u.2)
-
-  pub take_back_once : {c c' counter : ℕ} → TakesBack (book_in before) counter (says c 0 0) (book_in after) → TakesBack (book_in before) counter (says c' 0 0) (book_in after') →
-      (c ≡ c') × (after ≡ after')
-  take_back_once {counter = counter} a b =
-      let u = back_once (book_in before) counter a b in
-      ((numbers u.0).0, same_words after after' l l' u.1)
+module _ {c p n c' p' n' : ℕ} where
+  pub take_once : {before after after' label room last last' : List ℕ} → Takes (book before) label room (says c p n) (book after) last →
+      Takes (book before) label room (says c' p' n') (book after') last' → ((c ≡ c') × (p ≡ p') × (n ≡ n')) × (after ≡ after') × (last ≡ last')
+  take_once {before} {label = label} {room = room} a b =
+      let u = taken_once (book before) label room a b in
+      (numbers u.0, ap (λ (x : Book). x.counts) u.1, u.2)

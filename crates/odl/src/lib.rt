@@ -1,16 +1,14 @@
-// The C face of the library: each function thin over a proved one, under the name that include/odl.h declares. The results are set on
-// every call, and the contract says of them and of what is lent what the rules say.
-ghost use Rattle.std.specs.Prelude.{◌≡◌};
+// The C face of the library: each function thin over a proved one, under the name that include/odl.h declares. Code, place and length
+// are set on every call, and the contract says of them and of the lent room what the rules say.
 ghost use Rattle.rules.specs.Modes.{base};
 ghost use Rattle.rules.specs.Reading.{Answered};
 ghost use Rattle.rules.specs.Writing.{Writes};
 ghost use Rattle.rules.specs.Asked.{says, Texted, Sought, Viewed};
-ghost use Rattle.rules.specs.Book.{Takes, TakesBack};
+ghost use Rattle.rules.specs.Book as rule;
+ghost use Rattle.rules.specs.Book.{Takes};
 ghost use Rattle.classes.specs.Places.{as_span};
-ghost use Rattle.book.specs.Answers.{book_of};
-ghost use Rattle.odl.specs.Books.{book_in};
 
-use book::{Book, take, take_back};
+use book::{Book, take};
 use queries::{find, name_span, text};
 use statements::read;
 use writer::write;
@@ -95,48 +93,22 @@ pub extern "C" fn odl_name(
     *end = s.end;
 }
 
-// A book as C lends it: the eight counters, and behind them the busiest weekday.
-fn opened(w: [u32; 9]) -> Book
-    ensures { book_of result ≡ book_in w }
-{
-    Book {
-        counts: [w[0], w[1], w[2], w[3], w[4], w[5], w[6], w[7]],
-        busiest: w[8],
-    }
-}
-
-fn laid(book: Book) -> [u32; 9]
-    ensures { book_in result ≡ book_of book }
-{
-    let c = book.counts;
-    [c[0], c[1], c[2], c[3], c[4], c[5], c[6], c[7], book.busiest]
-}
-
 #[unsafe(no_mangle)]
 pub extern "C" fn odl_take(
-    book: &mut [u32; 9],
+    book: &mut [u32; 8],
     label: &[u8],
     table: &mut [u8],
     place: &mut usize,
     length: &mut usize,
 ) -> u8
-    ensures { Takes (book_in book.old) label.now table.old (says result place.new length.new) (book_in book.new) table.new }
+    ensures { Takes (rule.book book.old) label.now table.old (says result place.new length.new) (rule.book book.new) table.new }
 {
     let before = *book;
-    let t = take(opened(before), label, table);
-    *book = laid(t.book);
+    let t = take(Book { counts: before }, label, table);
+    let kept = t.book;
+    let after = kept.counts;
+    *book = after;
     *place = t.place;
     *length = t.length;
     t.code
-}
-
-// A taking back has place and length 0, whatever its code: they are not handed back.
-#[unsafe(no_mangle)]
-pub extern "C" fn odl_take_back(book: &mut [u32; 9], counter: usize) -> u8
-    ensures { TakesBack (book_in book.old) counter (says result 0 0) (book_in book.new) }
-{
-    let before = *book;
-    let back = take_back(opened(before), counter);
-    *book = laid(back.book);
-    back.code
 }

@@ -8,7 +8,7 @@ use Rattle.rules.specs.Table.{table}
 use Rattle.rules.specs.Reading.{Outcome, accepted, refused, Reads, Said, Answered, filled}
 use Rattle.rules.specs.Writing.{Writes}
 use Rattle.rules.specs.Asked.{says, Texted, Viewed, Sought}
-use Rattle.rules.specs.Book.{Book, book, empty, Takes, TakesBack, Session}
+use Rattle.rules.specs.Book.{Book, book, empty, Takes, Session}
 
 -- an input, and what a reading of it comes to
 pub record Example : Type 0 where
@@ -75,8 +75,6 @@ pub data Call : Type 0 where
   views : List ℕ → List ℕ → ℕ → Span → Call
   -- a book, a label and a room; the book after
   takes : Book → List ℕ → List ℕ → Said → Book → List ℕ → Call
-  -- a book and a number of a counter; the book after
-  takes_back : Book → ℕ → Said → Book → Call
   -- a label, and the number of the counter that its session goes under
   counts : String → ℕ → Call
   -- a label, and the label that is written of its table
@@ -120,19 +118,15 @@ abbrev pub group_table : List ℕ
 group_table =
     5 ∷ 0 ∷ 6 ∷ 0 ∷ 7 ∷ 1 ∷ 0 ∷ 8 ∷ 0 ∷ 9 ∷ (integer_of 1 ++ (6 ∷ 1 ∷ 0 ∷ 22 ∷ 0 ∷ 23 ∷ (integer_of 2 ++ end_at 29)))
 
--- the rows of an attribute whose name is the label's first ten bytes, and of a day of July 1979
-abbrev pub start_on : ℕ → List ℕ
-start_on day = 1 ∷ 0 ∷ 0 ∷ 0 ∷ 10 ∷ 12 ∷ 1 ∷ 7 ∷ 187 ∷ 7 ∷ day ∷ 0 ∷ 0 ∷ 0 ∷ 0 ∷ 0 ∷ 0 ∷ 0 ∷ 0 ∷ 0 ∷ 0 ∷ []
+-- the rows of an attribute whose name is the label's first ten bytes, and of 1979-07-08
+abbrev pub start-on-sunday : List ℕ
+start-on-sunday = 1 ∷ 0 ∷ 0 ∷ 0 ∷ 10 ∷ 12 ∷ 1 ∷ 7 ∷ 187 ∷ 7 ∷ 8 ∷ 0 ∷ 0 ∷ 0 ∷ 0 ∷ 0 ∷ 0 ∷ 0 ∷ 0 ∷ 0 ∷ 0 ∷ []
 
--- a book with sessions on Monday, on Sunday, and undated ones, and its busiest day
-abbrev pub sessions : ℕ → ℕ → ℕ → ℕ → Book
-sessions monday sunday undated busiest = book (monday ∷ 0 ∷ 0 ∷ 0 ∷ 0 ∷ 0 ∷ sunday ∷ undated ∷ []) busiest
+-- a book with sessions on Monday, on Sunday, and undated ones
+abbrev pub sessions : ℕ → ℕ → ℕ → Book
+sessions monday sunday undated = book (monday ∷ 0 ∷ 0 ∷ 0 ∷ 0 ∷ 0 ∷ sunday ∷ undated ∷ [])
 
--- an empty book, but for the largest number of 32 bits as its busiest day
-abbrev pub empty_but_for_its_day : Book
-empty_but_for_its_day = sessions 0 0 0 4294967295
-
--- what no theorem pins, and document 02 §1, §2, §4, §6 and §9, worked out by hand from the papers
+-- what no theorem pins, and document 02 §1, §2, §4 and §6, worked out by hand from the papers
 abbrev pub calls : List Call
 calls =
     -- a comment runs to its `*/`, and the rest of that line is ignored: the first END is no element
@@ -191,19 +185,19 @@ calls =
     -- document 02 §6: no zone, Z and `+0` are written alike
     ∷ relabels (ascii "A=(10:00,10:00z,10:00+0,10:00-00:30) END") (ascii "A = (10:00:00Z, 10:00:00Z, 10:00:00Z, 10:00:00-00:30)\r\nEND\r\n")
     -- document 02 §1: a session counts under the weekday of the date as written, the day of year too; 1979-07-08 is a Sunday
-    ∷ takes (sessions 5 6 7 7) (ascii "START_TIME=1979-07-08 END") (before 25) (says 0 25 24) (sessions 5 7 7 7) (start_on 8 ++ (end_at 25 ++ before 1))
-    ∷ takes (sessions 5 6 7 7) (ascii "Start_Time=1979-189 END") (before 24) (says 0 23 24) (sessions 5 7 7 7) (start_on 8 ++ end_at 23)
-    -- an empty book is one of eight zeros and no busiest day, and the sum 999,999 lets one in
-    ∷ takes empty (ascii "END") (before 4) (says 0 3 3) (sessions 0 0 1 0) (end_at 3 ++ before 1)
-    ∷ takes (sessions 999999 0 0 1) (ascii "START_TIME=1979-07-08 END") (before 24) (says 0 25 24) (sessions 999999 1 0 1) (start_on 8 ++ end_at 25)
+    ∷ takes (sessions 5 6 7) (ascii "START_TIME=1979-07-08 END") (before 25) (says 0 25 24) (sessions 5 7 7) (start-on-sunday ++ (end_at 25 ++ before 1))
+    ∷ takes (sessions 5 6 7) (ascii "Start_Time=1979-189 END") (before 24) (says 0 23 24) (sessions 5 7 7) (start-on-sunday ++ end_at 23)
+    -- an empty book is one of eight zeros, and the sum 999,999 lets one in
+    ∷ takes empty (ascii "END") (before 4) (says 0 3 3) (sessions 0 0 1) (end_at 3 ++ before 1)
+    ∷ takes (sessions 999999 0 0) (ascii "START_TIME=1979-07-08 END") (before 24) (says 0 25 24) (sessions 999999 1 0) (start-on-sunday ++ end_at 25)
     -- then 16, book full; before it the reader's own refusals, 11 among them; book and room unchanged
-    ∷ takes (sessions 1000000 0 0 1) (ascii "START_TIME=1979-07-08 END") (before 24) (says 16 0 0) (sessions 1000000 0 0 1) (before 24)
-    ∷ takes (sessions 1000000 0 0 1) (ascii "START_TIME=1979-07-08 END") (before 23) (says 11 25 24) (sessions 1000000 0 0 1) (before 23)
-    ∷ takes (sessions 1000000 0 0 1) (ascii "START_TIME=1979-07-08") (before 24) (says 10 21 0) (sessions 1000000 0 0 1) (before 24)
-    ∷ takes (sessions 5 6 7 7) (ascii "START_TIME=1979-07-08") (before 24) (says 10 21 0) (sessions 5 6 7 7) (before 24)
-    ∷ takes (sessions 5 6 7 7) (ascii "START_TIME=1979-07-08 END") (before 23) (says 11 25 24) (sessions 5 6 7 7) (before 23)
-    ∷ takes (sessions 1 2 999997 7) (ascii "END") (before 3) (says 16 0 0) (sessions 1 2 999997 7) (before 3)
-    ∷ takes (sessions 0 4294967295 4294967295 7) (ascii "END") (before 3) (says 16 0 0) (sessions 0 4294967295 4294967295 7) (before 3)
+    ∷ takes (sessions 1000000 0 0) (ascii "START_TIME=1979-07-08 END") (before 24) (says 16 0 0) (sessions 1000000 0 0) (before 24)
+    ∷ takes (sessions 1000000 0 0) (ascii "START_TIME=1979-07-08 END") (before 23) (says 11 25 24) (sessions 1000000 0 0) (before 23)
+    ∷ takes (sessions 1000000 0 0) (ascii "START_TIME=1979-07-08") (before 24) (says 10 21 0) (sessions 1000000 0 0) (before 24)
+    ∷ takes (sessions 5 6 7) (ascii "START_TIME=1979-07-08") (before 24) (says 10 21 0) (sessions 5 6 7) (before 24)
+    ∷ takes (sessions 5 6 7) (ascii "START_TIME=1979-07-08 END") (before 23) (says 11 25 24) (sessions 5 6 7) (before 23)
+    ∷ takes (sessions 1 2 999997) (ascii "END") (before 3) (says 16 0 0) (sessions 1 2 999997) (before 3)
+    ∷ takes (sessions 0 4294967295 4294967295) (ascii "END") (before 3) (says 16 0 0) (sessions 0 4294967295 4294967295) (before 3)
     -- the offset is not applied; the first top-level START_TIME; a single value with a date
     ∷ counts "START_TIME=1979-07-08T23:30-12 END" 7
     ∷ counts "START_TIME=1979-07-08T00:30+12 END" 7
@@ -221,47 +215,6 @@ calls =
     ∷ counts "START_TIME=1900-03-01 END" 4
     ∷ counts "START_TIME=0001-01-01 END" 1
     ∷ counts "START_TIME=9999-12-31 END" 5
-    -- document 02 §9: the busiest day is the one with the largest count, the earliest from Monday among equals; undated sessions leave it
-    ∷ takes empty (ascii "START_TIME=1979-07-08 END") (before 24) (says 0 25 24) (sessions 0 1 0 7) (start_on 8 ++ end_at 25)
-    ∷ takes (sessions 6 6 7 1) (ascii "START_TIME=1979-07-08 END") (before 24) (says 0 25 24) (sessions 6 7 7 7) (start_on 8 ++ end_at 25)
-    ∷ takes (sessions 6 5 7 1) (ascii "START_TIME=1979-07-08 END") (before 24) (says 0 25 24) (sessions 6 6 7 1) (start_on 8 ++ end_at 25)
-    ∷ takes (sessions 5 6 7 7) (ascii "START_TIME=1979-07-09 END") (before 24) (says 0 25 24) (sessions 6 6 7 1) (start_on 9 ++ end_at 25)
-    ∷ takes (sessions 5 6 7 7) (ascii "END") (before 3) (says 0 3 3) (sessions 5 6 8 7) (end_at 3)
-    ∷ takes (book (1 ∷ 2 ∷ 3 ∷ 3 ∷ 0 ∷ 3 ∷ 2 ∷ 9 ∷ []) 3) (ascii "START_TIME=1979-07-08 END") (before 24) (says 0 25 24)
-    (book (1 ∷ 2 ∷ 3 ∷ 3 ∷ 0 ∷ 3 ∷ 3 ∷ 9 ∷ []) 3) (start_on 8 ++ end_at 25)
-    -- 24 if its counters do not bear out the day that the book names: a day with fewer, the later of two equal ones, undated, none though
-    -- a weekday has sessions, one though no weekday has any, a number that is no weekday's
-    ∷ takes (sessions 5 6 7 1) (ascii "END") (before 3) (says 24 0 0) (sessions 5 6 7 1) (before 3)
-    ∷ takes (sessions 6 6 7 7) (ascii "END") (before 3) (says 24 0 0) (sessions 6 6 7 7) (before 3)
-    ∷ takes (sessions 5 6 7 8) (ascii "END") (before 3) (says 24 0 0) (sessions 5 6 7 8) (before 3)
-    ∷ takes (sessions 5 6 7 0) (ascii "END") (before 3) (says 24 0 0) (sessions 5 6 7 0) (before 3)
-    ∷ takes (sessions 0 0 7 7) (ascii "END") (before 3) (says 24 0 0) (sessions 0 0 7 7) (before 3)
-    ∷ takes (sessions 5 6 7 9) (ascii "END") (before 3) (says 24 0 0) (sessions 5 6 7 9) (before 3)
-    ∷ takes empty_but_for_its_day (ascii "END") (before 3) (says 24 0 0) empty_but_for_its_day (before 3)
-    -- before all others: the reader's own, 11 among them, and 16
-    ∷ takes (sessions 5 6 7 1) (ascii "START_TIME=1979-07-08") (before 24) (says 24 0 0) (sessions 5 6 7 1) (before 24)
-    ∷ takes (sessions 5 6 7 1) (ascii "END") (before 2) (says 24 0 0) (sessions 5 6 7 1) (before 2)
-    ∷ takes (sessions 1000000 0 0 7) (ascii "END") (before 3) (says 24 0 0) (sessions 1000000 0 0 7) (before 3)
-    -- a session taken back by its counter's number
-    ∷ takes_back (sessions 5 6 7 7) 1 (says 0 0 0) (sessions 4 6 7 7)
-    ∷ takes_back (sessions 5 6 7 7) 7 (says 0 0 0) (sessions 5 5 7 1)
-    ∷ takes_back (sessions 5 6 7 7) 8 (says 0 0 0) (sessions 5 6 6 7)
-    ∷ takes_back (sessions 6 6 7 1) 1 (says 0 0 0) (sessions 5 6 7 7)
-    ∷ takes_back (sessions 6 6 7 1) 7 (says 0 0 0) (sessions 6 5 7 1)
-    ∷ takes_back (book (1 ∷ 2 ∷ 4 ∷ 3 ∷ 0 ∷ 3 ∷ 3 ∷ 9 ∷ []) 3) 3 (says 0 0 0) (book (1 ∷ 2 ∷ 3 ∷ 3 ∷ 0 ∷ 3 ∷ 3 ∷ 9 ∷ []) 3)
-    ∷ takes_back (book (1 ∷ 2 ∷ 3 ∷ 3 ∷ 0 ∷ 3 ∷ 3 ∷ 9 ∷ []) 3) 3 (says 0 0 0) (book (1 ∷ 2 ∷ 2 ∷ 3 ∷ 0 ∷ 3 ∷ 3 ∷ 9 ∷ []) 4)
-    ∷ takes_back (sessions 0 1 0 7) 7 (says 0 0 0) empty
-    ∷ takes_back (sessions 1000000 0 0 1) 1 (says 0 0 0) (sessions 999999 0 0 1)
-    ∷ takes_back (sessions 4294967295 4294967295 0 1) 7 (says 0 0 0) (sessions 4294967295 4294967294 0 1)
-    -- 22 if that counter is already zero; 23 for a number that is no counter; 24 before both
-    ∷ takes_back (sessions 5 6 0 7) 8 (says 22 0 0) (sessions 5 6 0 7)
-    ∷ takes_back (sessions 5 6 7 7) 2 (says 22 0 0) (sessions 5 6 7 7)
-    ∷ takes_back (sessions 5 6 7 7) 0 (says 23 0 0) (sessions 5 6 7 7)
-    ∷ takes_back (sessions 5 6 7 7) 9 (says 23 0 0) (sessions 5 6 7 7)
-    ∷ takes_back (sessions 5 6 7 1) 9 (says 24 0 0) (sessions 5 6 7 1)
-    ∷ takes_back (sessions 5 6 7 1) 2 (says 24 0 0) (sessions 5 6 7 1)
-    ∷ takes_back (sessions 5 6 7 1) 1 (says 24 0 0) (sessions 5 6 7 1)
-    ∷ takes_back (sessions 0 0 1 8) 8 (says 24 0 0) (sessions 0 0 1 8)
     -- the paper's example of relabel, its real as document 02 §4 writes it
     ∷ relabels (ascii "object = cam /* rig 4 */ ignored\n start = 1990-158T15:24:12\n hold = 1.50 <sec**1>\nend_object\nEND\n")
     (ascii "OBJECT = CAM\r\n  START = 1990-06-07T15:24:12Z\r\n  HOLD = 1.5 <SEC>\r\nEND_OBJECT = CAM\r\nEND\r\n")
@@ -283,7 +236,6 @@ CallHolds (takes_text label lent row room s after) = Texted label lent row room 
 CallHolds (looks_up label lent name row s) = Sought label lent name row s
 CallHolds (views label lent row p) = Viewed label lent row p
 CallHolds (takes b label room s b' after) = Takes b label room s b' after
-CallHolds (takes_back b n s b') = TakesBack b n s b'
 CallHolds (counts label n) = Session (ascii label) n
 CallHolds (relabels label after) = Relabelled label after
 

@@ -1,9 +1,7 @@
 //! Random cases, and runs of many of them.
 
 use crate::books::{self, Taking};
-use crate::history::{self, Codes};
-use crate::takings_back::{self, Back};
-use crate::{Answer, Call, Case};
+use crate::{history, Answer, Call, Case};
 use odl_model::random::{self, Random, TableCase};
 use odl_model::{dates, reals, rows, sessions, zones};
 use std::collections::BTreeMap;
@@ -37,10 +35,8 @@ pub struct Tally {
     pub sessions: BTreeMap<sessions::Case, u64>,
     /// Each case of books and rooms, of all takings.
     pub takings: BTreeMap<Taking, u64>,
-    /// Each case of takings back.
-    pub takings_back: BTreeMap<Back, u64>,
-    /// Each code of each call of histories.
-    pub histories: Codes,
+    /// Each code of the takings of histories.
+    pub histories: BTreeMap<u8, u64>,
     /// Tables that the writer refused at a row of no kind, by the run of
     /// `NO_KINDS` that it is of.
     pub no_kinds: [u64; NO_KINDS.len()],
@@ -77,9 +73,6 @@ impl Tally {
         for taking in books::cases(case, answer) {
             *self.takings.entry(taking).or_default() += 1;
         }
-        for back in takings_back::cases(case, answer) {
-            *self.takings_back.entry(back).or_default() += 1;
-        }
         if let Some(run) = run_of_no_kinds(case, answer) {
             self.no_kinds[run] += 1;
         }
@@ -93,7 +86,6 @@ impl Tally {
         add(&mut self.zones, other.zones);
         add(&mut self.sessions, other.sessions);
         add(&mut self.takings, other.takings);
-        add(&mut self.takings_back, other.takings_back);
         add(&mut self.histories, other.histories);
         for (sum, count) in self.no_kinds.iter_mut().zip(other.no_kinds) {
             *sum += count;
@@ -167,10 +159,10 @@ const HISTORIES: u64 = 500;
 
 /// The history of this number in the run of this seed, if it has one: how often
 /// each code was answered, or what differs.
-pub fn check_history(seed: u64, number: u64) -> Result<Codes, String> {
+pub fn check_history(seed: u64, number: u64) -> Result<BTreeMap<u8, u64>, String> {
     match number % HISTORIES {
         0 => history::check(&mut random_of(seed, !number)),
-        _ => Ok(Codes::new()),
+        _ => Ok(BTreeMap::new()),
     }
 }
 
@@ -189,15 +181,14 @@ fn random_of(seed: u64, number: u64) -> Random {
 /// The case of this number in the run of this seed.
 pub fn case(seed: u64, number: u64) -> Case {
     let mut random = random_of(seed, number);
-    let mut case = match random.below(40) {
+    let mut case = match random.below(30) {
         0..=8 => Case::read(&random::label(&mut random), 0),
         9 => at_the_written_limit(&mut random),
         10..=13 => over_table(&mut random, Call::Write),
         14..=16 => over_table(&mut random, Call::Text),
         17..=19 => over_table(&mut random, Call::Find),
         20 => over_table(&mut random, Call::Name),
-        21..=31 => return books::taking(&mut random),
-        32..=37 => return takings_back::taking_back(&mut random),
+        21..=27 => return books::taking(&mut random),
         _ => Case::over(Call::Rewrite, &rewritten_label(&mut random), &[]),
     };
     case.room = room(&mut random, case.room_needed());

@@ -4,18 +4,16 @@ use odl::raw;
 use odl_model::weekdays::{day_after, weekday, Date, FIRST, LAST};
 
 /// Takes a label with this START_TIME by the library into an empty book: the
-/// counter that is then 1, if all else is as it must be, the busiest day included.
+/// counter that is then 1, if all else is as it must be.
 pub fn counter(word: &str) -> Option<usize> {
     const LENGTH: usize = 24;
     let label = format!("START_TIME={word} END");
-    let mut book = raw::Book::default();
+    let mut book = raw::Book { counts: [0; 8] };
     let answer = raw::take(&mut book, label.as_bytes(), &mut [0; LENGTH]);
     let given = (answer.code, answer.place, answer.length);
     let counter = book.counts.iter().position(|&count| count == 1)?;
     let others = book.counts.iter().sum::<u32>() - 1;
-    let is_busiest = book.busiest as usize == (counter + 1) % 8;
-    let is_taken = given == (0, label.len(), LENGTH) && others == 0;
-    (is_taken && is_busiest).then_some(counter)
+    (given == (0, label.len(), LENGTH) && others == 0).then_some(counter)
 }
 
 /// Takes every day of every year, by day of year and by month and day: how many

@@ -1,16 +1,13 @@
 //! Holds the library against the model: one call, the same bytes handed to
 //! both, and everything that comes back compared.
 
-mod book_rules;
 pub mod books;
-pub mod busiest;
 pub mod chance;
 pub mod days;
 pub mod history;
-pub mod takings_back;
 
 use odl::raw;
-use odl_model::book::Book;
+use odl_model::book::{self, Book};
 use odl_model::zones;
 
 #[derive(Debug, Clone, Copy, PartialEq, Eq, PartialOrd, Ord)]
@@ -23,7 +20,6 @@ pub enum Call {
     Find,
     Name,
     Take,
-    TakeBack,
 }
 
 /// A call and all that is handed to it. What the call does not take is empty.
@@ -34,16 +30,14 @@ pub struct Case {
     pub table: Vec<u8>,
     pub name: Vec<u8>,
     pub row: usize,
-    /// The book before the call.
+    /// The counters before the call.
     pub book: Book,
-    /// The number of the counter to take back from.
-    pub number: usize,
     /// Length of the lent room.
     pub room: usize,
 }
 
 /// Code, place and length; of a lookup code, place and offset; of a name 0,
-/// start and end; of a taking back code, 0 and 0.
+/// start and end.
 pub type Answer = (u8, usize, usize);
 
 impl Case {
@@ -62,14 +56,6 @@ impl Case {
         }
     }
 
-    pub fn take_back(book: Book, number: usize) -> Case {
-        Case {
-            book,
-            number,
-            ..Case::over(Call::TakeBack, &[], &[])
-        }
-    }
-
     /// A call over a label and a table, with the rest still empty.
     pub fn over(call: Call, label: &[u8], table: &[u8]) -> Case {
         Case {
@@ -78,8 +64,7 @@ impl Case {
             table: table.to_vec(),
             name: Vec::new(),
             row: 0,
-            book: Book::EMPTY,
-            number: 0,
+            book: [0; 8],
             room: 0,
         }
     }
@@ -106,12 +91,11 @@ impl Case {
                 return (0, start, end);
             }
             Call::Take => raw::take(book, label, room),
-            Call::TakeBack => return (raw::take_back(book, self.number), 0, 0),
         };
         (answer.code, answer.place, answer.length)
     }
 
-    fn model(&self, book: &mut Book, room: &mut [u8]) -> Answer {
+    fn model(&self, book: &mut raw::Book, room: &mut [u8]) -> Answer {
         let Case { label, table, .. } = self;
         let answer = match self.call {
             Call::Read => odl_model::read(label, room),
@@ -129,18 +113,16 @@ impl Case {
                 let (start, end) = odl_model::name(label, table, self.row);
                 return (0, start, end);
             }
-            Call::Take => odl_model::take(book, label, room),
-            Call::TakeBack => return (odl_model::take_back(book, self.number), 0, 0),
+            Call::Take => odl_model::take(&mut book.counts, label, room),
         };
         (answer.code, answer.place, answer.length)
     }
 
-    /// The room that the model says is needed; of a taking, for the label's table.
+    /// The room that the model says is needed.
     pub fn room_needed(&self) -> usize {
         match self.call {
             Call::Find | Call::Name => 0,
-            Call::Take => odl_model::read(&self.label, &mut []).length,
-            _ => self.model(&mut self.book.clone(), &mut []).2,
+            _ => self.model(&mut raw::Book { counts: self.book }, &mut []).2,
         }
     }
 
@@ -148,12 +130,7 @@ impl Case {
     pub fn check(&self) -> Result<Answer, String> {
         let before = self.clone();
         let library = self.lent(|book, room| self.library(book, room));
-        let model = self.lent(|book, room| {
-            let mut own = model_book(book);
-            let answer = self.model(&mut own, room);
-            *book = library_book(own);
-            answer
-        });
+        let model = self.lent(|book, room| self.model(book, room));
         let difference = match *self == before {
             true => self.difference(&library, &model),
             false => Some("bytes lent for reading were changed".to_string()),
@@ -197,6 +174,14 @@ impl Case {
         }
         let rules = [
             (
+                "the session is not counted once",
+                self.is_counted_once(left),
+            ),
+            (
+                "it is taken otherwise than read",
+                self.is_taken_as_read(left),
+            ),
+            (
                 "dates or times are read again as others",
                 left.answer.0 != 0 || self.is_read_again(&left.room[..written]),
             ),
@@ -205,9 +190,35 @@ impl Case {
                 self.is_written_whatever_the_marks(left),
             ),
         ];
-        let mut rules = rules.into_iter().chain(self.book_rules(left));
-        let broken = rules.find(|&(_, holds)| !holds);
+        let broken = rules.into_iter().find(|&(_, holds)| !holds);
         broken.map(|(what, _)| what.to_string())
+    }
+
+    /// Whether one counter is one more if a label was taken, and all are as they
+    /// were if not.
+    fn is_counted_once(&self, left: &Left) -> bool {
+        let is_taken = self.call == Call::Take && left.answer.0 == 0;
+        let pairs = self.book.iter().zip(&left.book);
+        let changed: Vec<(&u32, &u32)> = pairs.filter(|(before, after)| before != after).collect();
+        match changed[..] {
+            [] => !is_taken,
+            [(before, after)] => is_taken && before.checked_add(1) == Some(*after),
+            _ => false,
+        }
+    }
+
+    /// Whether a label is taken with the answer and the room that the library's
+    /// reading gives, unless the book is full (02 §1).
+    fn is_taken_as_read(&self, left: &Left) -> bool {
+        if self.call != Call::Take {
+            return true;
+        }
+        let reading = Case::read(&self.label, self.room);
+        let read = reading.lent(|book, room| reading.library(book, room));
+        match read.answer {
+            (0, ..) if book::is_full(&self.book) => left.answer == (16, 0, 0),
+            answer => left.answer == answer && left.room == read.room,
+        }
     }
 
     /// Whether the library reads the dates and times of what it wrote as those
@@ -253,7 +264,7 @@ impl Case {
         let kept = memory.iter().chain(&after).all(|&byte| byte == UNLENT);
         Left {
             answer,
-            book: model_book(&fenced.book),
+            book: fenced.book.counts,
             room,
             kept: kept && fenced.is_kept(),
         }
@@ -278,13 +289,11 @@ impl Case {
         let table: String = self.table.iter().map(|b| format!("{b:02x}")).collect();
         let table = cut(table);
         format!(
-            "{:?} with room {} at row {}\nbook  {:?} {}, number {}\nname  \"{}\"\nlabel ({} bytes) \"{}\"\ntable ({} bytes) {}",
+            "{:?} with room {} at row {}\nbook  {:?}\nname  \"{}\"\nlabel ({} bytes) \"{}\"\ntable ({} bytes) {}",
             self.call,
             self.room,
             self.row,
-            self.book.counts,
-            self.book.busiest,
-            self.number,
+            self.book,
             self.name.escape_ascii(),
             self.label.len(),
             cut(self.label.escape_ascii().to_string()),
@@ -292,16 +301,6 @@ impl Case {
             table,
         )
     }
-}
-
-/// The library's book of these counters and this day.
-pub fn library_book(Book { counts, busiest }: Book) -> raw::Book {
-    raw::Book { counts, busiest }
-}
-
-/// The model's book of these counters and this day.
-pub fn model_book(&raw::Book { counts, busiest }: &raw::Book) -> Book {
-    Book { counts, busiest }
 }
 
 /// The table that the library reads; none if it refuses the label.
@@ -355,10 +354,10 @@ struct Fenced {
 impl Fenced {
     const UNLENT: [u32; 16] = [0x5A5A_5A5A; 16];
 
-    fn around(book: Book) -> Fenced {
+    fn around(counts: Book) -> Fenced {
         Fenced {
             before: Fenced::UNLENT,
-            book: library_book(book),
+            book: raw::Book { counts },
             after: Fenced::UNLENT,
         }
     }

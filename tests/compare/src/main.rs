@@ -60,11 +60,8 @@ fn run(minutes: u64, seed: u64) -> Result<(), String> {
     for (case, count) in &tally.takings {
         println!("{case:?}: {count}");
     }
-    for (case, count) in &tally.takings_back {
-        println!("taking back, {case:?}: {count}");
-    }
-    for ((call, code), count) in &tally.histories {
-        println!("in histories {call:?} code {code}: {count}");
+    for (code, count) in &tally.histories {
+        println!("in histories code {code}: {count}");
     }
     for (run, count) in chance::NO_KINDS.iter().zip(tally.no_kinds) {
         println!("no row is of kind {run:?}: {count}");

@@ -11,7 +11,6 @@ pub mod dates;
 mod elements;
 mod gaps;
 pub mod layout;
-pub mod listed;
 mod lookup;
 mod meaning;
 mod outline;
@@ -51,9 +50,6 @@ pub mod code {
     pub const NAME_ABSENT: u8 = 14;
     pub const NO_SUCH_ROW: u8 = 15;
     pub const BOOK_FULL: u8 = 16;
-    pub const COUNTER_ZERO: u8 = 22;
-    pub const NO_COUNTER: u8 = 23;
-    pub const NOT_BORNE_OUT: u8 = 24;
 }
 
 /// What a reading, a writing, a text reassembly or a taking reports.
@@ -89,44 +85,25 @@ pub fn read(label: &[u8], table: &mut [u8]) -> Answer {
     }
 }
 
-/// Reads a label into the lent table room and counts it in the book. Whatever the
-/// label, the book must name its busiest day rightly. Only what the reader
-/// accepts, the room included, can find the book full.
+/// Reads a label into the lent table room and counts it in the book. Only what
+/// the reader accepts, the room included, can find the book full.
 pub fn take(book: &mut Book, label: &[u8], table: &mut [u8]) -> Answer {
-    let by_the_book = |code| Fault { code, place: 0 }.refusal();
-    if !book.is_borne_out() {
-        return by_the_book(code::NOT_BORNE_OUT);
-    }
     let (rows, end) = match reading(label) {
         Ok(read) => read,
         Err(fault) => return fault.refusal(),
     };
     let fits = rows.len() <= table.len();
-    if fits && book::is_full(&book.counts) {
-        return by_the_book(code::BOOK_FULL);
+    if fits && book::is_full(book) {
+        return Answer {
+            code: code::BOOK_FULL,
+            place: 0,
+            length: 0,
+        };
     }
     if fits {
-        let mut counts = book.counts;
-        counts[book::counter(label, &rows)] += 1;
-        *book = Book::of(counts);
+        book[book::counter(label, &rows)] += 1;
     }
     deliver(&rows, end, table)
-}
-
-/// Takes a session back by its counter's number, 1 Monday to 7 Sunday, 8 undated,
-/// and gives the code.
-pub fn take_back(book: &mut Book, number: usize) -> u8 {
-    if !book.is_borne_out() {
-        return code::NOT_BORNE_OUT;
-    }
-    let mut counts = book.counts;
-    match number {
-        1..=8 if counts[number - 1] == 0 => return code::COUNTER_ZERO,
-        1..=8 => counts[number - 1] -= 1,
-        _ => return code::NO_COUNTER,
-    }
-    *book = Book::of(counts);
-    code::ACCEPTED
 }
 
 /// Writes the canonical label of a table into the lent room.

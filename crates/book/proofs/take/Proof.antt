@@ -1,26 +1,20 @@
 -- `take` meets its contract.
-use Rattle.book.proofs.Answers.{is_borne, take_not_borne, take_full, take_refused, may_add, may_raise, take_counted}
+use Rattle.book.proofs.Answers.{take_full, take_refused, may_add, take_counted}
 use borrow.Author.Rules.{rules}
 use Rattle.book.proofs.take.Statement.{statement}
 use Rattle.book.proofs.take.Tie as tie
 
 returns : tie.Need-returns
-returns c = take_not_borne _ c.before.before.busiest-of.ensures c.before.if1.true c.refusal.ensures
+returns c = take_full _ c.before.before.total.ensures c.before.if1.true c.take_full.ensures
 
 returns_2 : tie.Need-returns-2
-returns_2 c = take_full _ (is_borne _ c.before.before.before.before.busiest-of.ensures c.before.before.before.if1.false) c.before.before.total.ensures c.before.if2.true c.take_full.ensures
-
-returns_3 : tie.Need-returns-3
-returns_3 c = take_refused _ (is_borne _ c.before.before.before.before.before.before.before.before.before.before.busiest-of.ensures c.before.before.before.before.before.before.before.before.before.if1.false) c.before.before.before.before.before.before.before.before.total.ensures c.before.before.before.before.before.read.ensures c.before.before.code_of.ensures c.before.if3.true c.refused.ensures
+returns_2 c = take_refused _ c.before.before.before.before.before.before.before.before.total.ensures c.before.before.before.before.before.read.ensures c.before.before.code_of.ensures c.before.if2.true c.refused.ensures
 
 one_more_requires : tie.Need-one-more-requires
-one_more_requires c κs = may_add _ c.counter.ensures c.before.before.before.before.before.before.before.before.before.before.before.total.ensures c.before.before.before.before.before.before.before.before.before.before.if2.false
+one_more_requires c κs = may_add _ c.before.before.before.before.before.before.before.before.before.before.before.total.ensures c.before.before.before.before.before.before.before.before.read.ensures c.before.before.before.before.before.code_of.ensures c.before.before.before.before.before.before.before.before.before.before.if1.false c.before.before.before.before.if2.false c.before.before.before.length-of.ensures c.before.part.ensures c.counter.ensures
 
-raised_requires : tie.Need-raised-requires
-raised_requires c κs = may_raise _ c.before.counter.ensures (is_borne _ c.before.before.before.before.before.before.before.before.before.before.before.before.before.before.busiest-of.ensures c.before.before.before.before.before.before.before.before.before.before.before.before.before.if1.false)
-
-returns_4 : tie.Need-returns-4
-returns_4 c = take_counted _ (is_borne _ c.before.before.before.before.before.before.before.before.before.before.before.before.before.before.before.before.busiest-of.ensures c.before.before.before.before.before.before.before.before.before.before.before.before.before.before.before.if1.false) c.before.before.before.before.before.before.before.before.before.before.before.before.before.before.total.ensures c.before.before.before.before.before.before.before.before.before.before.before.read.ensures c.before.before.before.before.before.before.before.before.code_of.ensures c.before.before.before.before.before.before.before.before.before.before.before.before.before.if2.false c.before.before.before.before.before.before.before.if3.false c.before.before.before.before.before.before.length-of.ensures c.before.before.before.before.part.ensures c.before.before.before.counter.ensures c.before.before.one_more.ensures c.before.raised.ensures c.place_of.ensures
+returns_3 : tie.Need-returns-3
+returns_3 c = take_counted _ c.before.before.before.before.before.before.before.before.before.before.before.before.before.total.ensures c.before.before.before.before.before.before.before.before.before.before.read.ensures c.before.before.before.before.before.before.before.code_of.ensures c.before.before.before.before.before.before.before.before.before.before.before.before.if1.false c.before.before.before.before.before.before.if2.false c.before.before.before.before.before.length-of.ensures c.before.before.before.part.ensures c.before.before.counter.ensures c.before.one_more.ensures c.place_of.ensures
 
 pub take_spec : {M : Type 1} → statement M
 take_spec =
@@ -31,17 +25,13 @@ take_spec =
     returns
     (λ c κs. search rules)
     (λ c κs. search rules)
+    (λ c κs. search rules)
+    (λ c. search rules)
     returns_2
     (λ c κs. search rules)
     (λ c κs. search rules)
     (λ c κs. search rules)
-    (λ c. search rules)
-    returns_3
-    (λ c κs. search rules)
-    (λ c κs. search rules)
-    (λ c κs. search rules)
     one_more_requires
-    raised_requires
     (λ c κs. search rules)
     (λ c. search rules)
-    returns_4)
+    returns_3)

@@ -6,7 +6,7 @@ use Rattle.book.proofs.take_full.Statement.{statement}
 use Rattle.book.proofs.take_full.Tie as tie
 
 returns : tie.Need-returns
-returns c = full_fits refl c.before.before.before.before.read.ensures c.before.before.code_of.ensures c.before.if1.true c.refusal.ensures
+returns c = full_fits refl c.before.before.before.before.read.ensures c.before.before.code_of.ensures c.before.if1.true c.book_full.ensures
 
 returns_2 : tie.Need-returns-2
 returns_2 c = full_refused refl c.before.before.before.before.before.read.ensures c.before.before.before.code_of.ensures c.before.before.if1.false c.before.if2.true c.refused.ensures
@@ -15,7 +15,7 @@ returns_3 : tie.Need-returns-3
 returns_3 c = full_short refl c.before.before.before.before.before.before.before.read.ensures c.before.before.before.before.before.code_of.ensures c.before.before.before.if2.false c.before.before.length-of.ensures c.before.if3.true c.refused2.ensures
 
 returns_4 : tie.Need-returns-4
-returns_4 c = full_full refl c.before.before.before.before.before.before.before.read.ensures c.before.before.before.before.before.code_of.ensures c.before.before.before.if2.false c.before.before.length-of.ensures c.before.if3.false c.refusal2.ensures
+returns_4 c = full_full refl c.before.before.before.before.before.before.before.read.ensures c.before.before.before.before.before.code_of.ensures c.before.before.before.if2.false c.before.before.length-of.ensures c.before.if3.false c.book-full2.ensures
 
 pub take_full_spec : {M : Type 1} → statement M
 take_full_spec =

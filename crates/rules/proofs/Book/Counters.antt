@@ -1,4 +1,4 @@
--- The eight counters: one of them changed and the rest equal, and their sum.
+-- The eight counters: one more of one of them and the rest equal, and their sum.
 use Prim.Native.Nat.{ℕ, zero, suc, ◌+◌, ◌-◌, ◌≤◌, ◌<◌}
 use mathlib.Core.Path.{◌≡◌}
 use mathlib.Core.List.{List, [], ◌∷◌}
@@ -6,7 +6,12 @@ use native.Mathlib.Omega.{arith}
 use native.Mathlib.Nat.{le_of_suc-le-suc, not-suc-le-zero}
 use lib.ListN.{length, get_or, set, length-set}
 use lib.Seq.{get_or-set_same, get_or-set_other}
-use Rattle.rules.specs.Book.{Counter, sum, count, with_one_more, with_one_less}
+use Rattle.rules.specs.Book.{sum, count, with_one_more}
+
+-- a number of a counter
+pub record Counter (n : ℕ) : Type 0 where
+  pub from : 1 ≤ n
+  pub upto : n ≤ 8
 
 -- no counter is more than the sum
 pub below : (c : List ℕ) (i : ℕ) → get_or c i 0 ≤ sum c
@@ -22,37 +27,17 @@ sum_set (x ∷ xs) (suc i) v h = omega (arith, sum_set xs i v (le_of_suc-le-suc 
 pub more_length : (c : List ℕ) (n : ℕ) → length (with_one_more c n) ≡ length c
 more_length c n = length-set c (n - 1) _
 
-pub less_length : (c : List ℕ) (n : ℕ) → length (with_one_less c n) ≡ length c
-less_length c n = length-set c (n - 1) _
-
 module _ (c : List ℕ) (n : ℕ) (l : length c ≡ 8) (k : Counter n) where
   inside : n - 1 < length c
   inside = omega (arith, k.from, k.upto)
 
-  this_set : (v : ℕ) → count (set c (n - 1) v) n ≡ v
-  this_set v = get_or-set_same c (n - 1) v 0 inside
-
-  rest_set : (v m : ℕ) → Counter m → (m ≡ n → ⊥) → count (set c (n - 1) v) m ≡ count c m
-  rest_set v m h d = get_or-set_other c (n - 1) (m - 1) v 0 (λ e. d (omega (arith, h.from, k.from)))
-
-  -- one counter is one more,
-  pub this_more : count (with_one_more c n) n ≡ count c n + 1
-  this_more = this_set (count c n + 1)
-
-  -- and the rest equal
-  pub rest_more : (m : ℕ) → Counter m → (m ≡ n → ⊥) → count (with_one_more c n) m ≡ count c m
-  rest_more = rest_set (count c n + 1)
-
   pub sum_more : sum (with_one_more c n) ≡ sum c + 1
   sum_more = omega (arith, sum_set c (n - 1) (count c n + 1) inside)
 
-  -- one counter is one less,
-  pub this_less : 0 < count c n → count (with_one_less c n) n + 1 ≡ count c n
-  this_less g = omega (arith, this_set (count c n - 1))
+  -- one counter is one more,
+  pub this_more : count (with_one_more c n) n ≡ count c n + 1
+  this_more = get_or-set_same c (n - 1) (count c n + 1) 0 inside
 
   -- and the rest equal
-  pub rest_less : (m : ℕ) → Counter m → (m ≡ n → ⊥) → count (with_one_less c n) m ≡ count c m
-  rest_less = rest_set (count c n - 1)
-
-  pub sum_less : 0 < count c n → sum (with_one_less c n) + 1 ≡ sum c
-  sum_less g = omega (arith, sum_set c (n - 1) (count c n - 1) inside)
+  pub rest-equal : (m : ℕ) → Counter m → (m ≡ n → ⊥) → count (with_one_more c n) m ≡ count c m
+  rest-equal m h d = get_or-set_other c (n - 1) (m - 1) (count c n + 1) 0 (λ e. d (omega (arith, h.from, k.from)))

@@ -14,13 +14,14 @@ use Rattle.rules.specs.Proper.{Each, one, Proper}
 use Rattle.rules.specs.Reading.{accepted, Reads, read, follows}
 use Rattle.rules.specs.Asked.{From, here, Finding, stands, absent, Looks}
 use Rattle.rules.specs.Calendar.{weekday}
-use Rattle.rules.specs.Book.{date_of, HasDate, date_alone, date_and_time, start_time, DateAt, undated, Counter, Under, on_weekday, no_start, no_date}
+use Rattle.rules.specs.Book.{date_of, HasDate, date_alone, date_and_time, start_time, DateAt, undated, Under, on_weekday, no_start, no_date}
 use Rattle.rules.proofs.Machine.Limits as limits
 use Rattle.rules.proofs.Machine.Limits.{Dated, MomentHeld, Valued}
 use Rattle.rules.proofs.Machine.Lookup.{from_of, seeks}
 use Rattle.rules.proofs.Tables.Seeking.{from_is, from_there, from_each, looks_is, looks_there}
 use Rattle.rules.proofs.Tables.OwnTable.{read_proper, read_valued}
 use Rattle.rules.proofs.Book.Calendar.{InCalendar, Weekdays, weekday_fixed}
+use Rattle.rules.proofs.Book.Counters.{Counter}
 
 -- ---- a label's table has a row
 

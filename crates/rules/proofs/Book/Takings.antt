@@ -1,46 +1,22 @@
 -- Taking a label: every call has an outcome, and only one; what it does to the book and the room.
 use Prim.Native.Nat.{ℕ, ◌≤◌, ◌<◌}
 use mathlib.Core.Path.{◌≡◌, refl, sym, ap, subst, ◌∙◌}
-use mathlib.Core.Bool.{Bool, true, false, cond, true≢false}
+use mathlib.Core.Bool.{cond}
 use mathlib.Core.List.{List}
 use native.Mathlib.Omega.{arith}
-use borrow.Author.Tests.{ltb-true, ltb-false, lt-ltb, le-ltb, leb-true, leb-false, le-leb, lt-leb, eqb-true, eq-eqb, ne_eqb}
-use lib.Dec.{leb, ltb, eqb}
+use borrow.Author.Tests.{ltb-true, ltb-false, lt-ltb, le-ltb, leb-true, leb-false, le-leb, lt-leb}
+use lib.Dec.{leb, ltb}
 use lib.ListN.{length}
 use Rattle.rules.specs.Data.{Row}
 use Rattle.rules.specs.Modes.{base}
 use Rattle.rules.specs.Table.{table}
 use Rattle.rules.specs.Reading.{Said, says, filled, Outcome, accepted, refused, Reads, Answered, stored, no_room, not_read}
-use Rattle.rules.specs.Book.{Book, book, sum, with_one_more, full, Busiest, BorneOut, Takes, counted, not_borne_out, reader_refuses, book_full}
+use Rattle.rules.specs.Book.{Book, book, sum, with_one_more, full, Takes, counted, reader_refuses, book_full}
 use Rattle.rules.proofs.Tables.Tests.{cond-case}
 use Rattle.rules.proofs.Machine.Labels.{reader}
 use Rattle.rules.proofs.Reading.Reader.{reads_sound, reads_complete}
 use Rattle.rules.proofs.Rooms.{refusal_some, refusal_most, refused_reading}
-use Rattle.rules.proofs.Book.Busiest.{busiest_of, busiest_there, busiest_is}
 use Rattle.rules.proofs.Book.Counting.{under_of, under_there, under_is}
-
--- ---- whether a book is borne out
-
-abbrev pub is_borne_out : Book → Bool
-is_borne_out b = eqb (busiest_of b.counts) b.busiest
-
-pub borne_is : {b : Book} → BorneOut b → is_borne_out b ≡ true
-borne_is {b} h = eq-eqb (busiest_of b.counts) b.busiest (busiest_is h)
-
-pub borne_not : {b : Book} → (BorneOut b → ⊥) → is_borne_out b ≡ false
-borne_not {b} h = ne_eqb (busiest_of b.counts) b.busiest (λ e. h (subst (Busiest b.counts) e (busiest_there b.counts)))
-
-pub borne_there : (b : Book) → is_borne_out b ≡ true → BorneOut b
-borne_there b h = subst (Busiest b.counts) (eqb-true (busiest_of b.counts) b.busiest h) (busiest_there b.counts)
-
-pub borne_never : (b : Book) → is_borne_out b ≡ false → BorneOut b → ⊥
-borne_never b h o = true≢false (sym (borne_is o) ∙ h)
-
--- the book of these counters, with their own busiest weekday
-abbrev pub with_day : List ℕ → Book
-with_day c = book c (busiest_of c)
-
--- ---- taking a label
 
 -- what a taking says, and what it leaves
 pub record Left : Type 0 where
@@ -54,7 +30,7 @@ leaves s b r = record { said = s; kept = b; room = r }
 -- of a label that is accepted, its table fitting
 abbrev fitting : Book → List ℕ → List ℕ → List Row → ℕ → Left
 fitting b l room rows i =
-    cond (ltb (sum b.counts) full) (leaves (says 0 i (length (table rows))) (with_day (with_one_more b.counts (under_of l rows))) (filled (table rows) room))
+    cond (ltb (sum b.counts) full) (leaves (says 0 i (length (table rows))) (book (with_one_more b.counts (under_of l rows))) (filled (table rows) room))
     (leaves (says 16 0 0) b room)
 
 abbrev on_reading : Book → List ℕ → List ℕ → Outcome → Left
@@ -62,7 +38,7 @@ on_reading b l room (accepted rows i) = cond (leb (length (table rows)) (length 
 on_reading b l room (refused c i) = leaves (says c i 0) b room
 
 unfoldable pub taken_of : Book → List ℕ → List ℕ → Left
-taken_of b l room = cond (is_borne_out b) (on_reading b l room (reader base l)) (leaves (says 24 0 0) b room)
+taken_of b l room = on_reading b l room (reader base l)
 
 -- no code of the reader is 16 or more
 no_late : {l room : List ℕ} {s : Said} {r : List ℕ} → Answered base l room s r → 16 ≤ s.code → ⊥
@@ -76,27 +52,25 @@ module _ (b : Book) (l room : List ℕ) where
 
   pub taken_by : Gives (taken_of b l room)
   unfolding taken_of
-  taken_by = cond-case Gives (is_borne_out b) _ _ (λ h. go (borne_there b h) (reader base l) (reads_sound base l)) (λ h. not_borne_out (borne_never b h))
+  taken_by = go (reader base l) (reads_sound base l)
     where
-      go : BorneOut b → (z : Outcome) → Reads base l z → Gives (on_reading b l room z)
-      go o (accepted rows i) r =
+      go : (z : Outcome) → Reads base l z → Gives (on_reading b l room z)
+      go (accepted rows i) r =
           cond-case Gives (leb (length (table rows)) (length room)) _ _ (λ h. let k = leb-true (length (table rows)) (length room) h in
-          cond-case Gives (ltb (sum b.counts) full) _ _
-          (λ g. counted o r k (ltb-true (sum b.counts) full g) (under_there r) (busiest_there (with_one_more b.counts (under_of l rows)))) (λ g. book_full o r k (ltb-false (sum b.counts) full g)))
-          (λ h. reader_refuses o (no_room r (leb-false (length (table rows)) (length room) h)) (λ e. omega arith))
-      go o (refused c i) r = reader_refuses o (not_read r) (λ e. omega (arith, refusal_some r))
+          cond-case Gives (ltb (sum b.counts) full) _ _ (λ g. counted r k (ltb-true (sum b.counts) full g) (under_there r)) (λ g. book_full r k (ltb-false (sum b.counts) full g)))
+          (λ h. reader_refuses (no_room r (leb-false (length (table rows)) (length room) h)) (λ e. omega arith))
+      go (refused c i) r = reader_refuses (not_read r) (λ e. omega (arith, refusal_some r))
 
   is : {s : Said} {b' : Book} {after : List ℕ} → Takes b l room s b' after → taken_of b l room ≡ leaves s b' after
   unfolding taken_of
-  is (counted {rows} {i} {n} {d} o r h f u y) = rw (borne_is o, reads_complete base r, le-leb (length (table rows)) (length room) h, lt-ltb (sum b.counts) full f, under_is u, busiest_is y)
-  is (not_borne_out n) = rw (borne_not n)
-  is (book_full {rows} {i} o r h f) = rw (borne_is o, reads_complete base r, le-leb (length (table rows)) (length room) h, le-ltb (sum b.counts) full f)
-  is (reader_refuses o a n) = go a n
+  is (counted {rows} {i} {n} r h f u) = rw (reads_complete base r, le-leb (length (table rows)) (length room) h, lt-ltb (sum b.counts) full f, under_is u)
+  is (book_full {rows} {i} r h f) = rw (reads_complete base r, le-leb (length (table rows)) (length room) h, le-ltb (sum b.counts) full f)
+  is (reader_refuses a n) = go a n
     where
-      go : {s : Said} {r : List ℕ} → Answered base l room s r → (s.code ≡ 0 → ⊥) → cond (is_borne_out b) (on_reading b l room (reader base l)) (leaves (says 24 0 0) b room) ≡ leaves s b room
+      go : {s : Said} {r : List ℕ} → Answered base l room s r → (s.code ≡ 0 → ⊥) → on_reading b l room (reader base l) ≡ leaves s b room
       go (stored r h) n = absurd (n refl)
-      go (no_room {rows} {i} r h) n = rw (borne_is o, reads_complete base r, lt-leb (length (table rows)) (length room) h)
-      go (not_read r) n = rw (borne_is o, reads_complete base r)
+      go (no_room {rows} {i} r h) n = rw (reads_complete base r, lt-leb (length (table rows)) (length room) h)
+      go (not_read r) n = rw (reads_complete base r)
 
   -- every taking has an outcome
   pub taken_there : (s : Said) × (b' : Book) × (after : List ℕ) × Takes b l room s b' after
@@ -110,49 +84,33 @@ module _ (b : Book) (l room : List ℕ) where
 
   -- book and room unchanged on every refusal
   pub refused_taking : {s : Said} {b' : Book} {after : List ℕ} → Takes b l room s b' after → (s.code ≡ 0 → ⊥) → (b' ≡ b) × (after ≡ room)
-  refused_taking (counted o r h f u y) n = absurd (n refl)
-  refused_taking (not_borne_out o) n = (refl, refl)
-  refused_taking (reader_refuses o a m) n = (refl, refl)
-  refused_taking (book_full o r h f) n = (refl, refl)
+  refused_taking (counted r h f u) n = absurd (n refl)
+  refused_taking (reader_refuses a m) n = (refl, refl)
+  refused_taking (book_full r h f) n = (refl, refl)
 
-  -- 24 before all others, whatever the label and the room are
-  pub not_borne_refuses : {s : Said} {b' : Book} {after : List ℕ} → Takes b l room s b' after → (BorneOut b → ⊥) → s ≡ says 24 0 0
-  not_borne_refuses t n = (taken_once t (not_borne_out n)).0
+  -- where the book is not full, it says what the reader says, and leaves in the room what the reader leaves there
+  pub as_reading : {s : Said} {b' : Book} {after : List ℕ} → Takes b l room s b' after → sum b.counts < full → Answered base l room s after
+  as_reading (counted r h f u) g = stored r h
+  as_reading (reader_refuses a m) g = a
+  as_reading (book_full r h f) g = absurd (omega arith)
 
-  module _ (o : BorneOut b) where
-    -- where the book is not full, it says what the reader says, and leaves in the room what the reader leaves there
-    pub as_reading : {s : Said} {b' : Book} {after : List ℕ} → Takes b l room s b' after → sum b.counts < full → Answered base l room s after
-    as_reading (counted x r h f u y) g = stored r h
-    as_reading (not_borne_out n) g = absurd (n o)
-    as_reading (reader_refuses x a m) g = a
-    as_reading (book_full x r h f) g = absurd (omega arith)
+  -- where it is full, it says what the reader says of a label that it refuses, and 16 of any other
+  pub full_refuses : {s s' : Said} {b' : Book} {after after' : List ℕ} → Takes b l room s b' after → full ≤ sum b.counts → Answered base l room s' after' → (s'.code ≡ 0 → ⊥) → s ≡ s'
+  full_refuses t f a n = (taken_once t (reader_refuses (subst (Answered base l room _) (refused_reading a n) a) n)).0
 
-    -- where it is full, it says what the reader says of a label that it refuses, and 16 of any other
-    pub full_refuses : {s s' : Said} {b' : Book} {after after' : List ℕ} → Takes b l room s b' after → full ≤ sum b.counts → Answered base l room s' after' → (s'.code ≡ 0 → ⊥) → s ≡ s'
-    full_refuses t f a n = (taken_once t (reader_refuses o (subst (Answered base l room _) (refused_reading a n) a) n)).0
+  pub full_sixteen : {s s' : Said} {b' : Book} {after after' : List ℕ} → Takes b l room s b' after → full ≤ sum b.counts → Answered base l room s' after' → s'.code ≡ 0 → s ≡ says 16 0 0
+  full_sixteen t f (stored r h) e = (taken_once t (book_full r h f)).0
+  full_sixteen t f (no_room r h) e = absurd (omega arith)
+  full_sixteen t f (not_read r) e = absurd (omega (arith, refusal_some r))
 
-    pub full_sixteen : {s s' : Said} {b' : Book} {after after' : List ℕ} → Takes b l room s b' after → full ≤ sum b.counts → Answered base l room s' after' → s'.code ≡ 0 → s ≡ says 16 0 0
-    full_sixteen t f (stored r h) e = (taken_once t (book_full o r h f)).0
-    full_sixteen t f (no_room r h) e = absurd (omega arith)
-    full_sixteen t f (not_read r) e = absurd (omega (arith, refusal_some r))
-
-  -- 16 is said of no other book
+  -- and 16 is said of no other book
   pub sixteen_full : {s : Said} {b' : Book} {after : List ℕ} → Takes b l room s b' after → s.code ≡ 16 → full ≤ sum b.counts
-  sixteen_full (counted o r h f u y) e = absurd (omega arith)
-  sixteen_full (not_borne_out n) e = absurd (omega arith)
-  sixteen_full (book_full o r h f) e = f
-  sixteen_full (reader_refuses o a n) e = absurd (no_late a (omega arith))
-
-  -- 24 is said of no book that is borne out
-  pub not_borne_alone : {s : Said} {b' : Book} {after : List ℕ} → Takes b l room s b' after → s.code ≡ 24 → BorneOut b → ⊥
-  not_borne_alone (counted o r h f u y) e = absurd (omega arith)
-  not_borne_alone (not_borne_out n) e = n
-  not_borne_alone (book_full o r h f) e = absurd (omega arith)
-  not_borne_alone (reader_refuses o a n) e = absurd (no_late a (omega arith))
+  sixteen_full (counted r h f u) e = absurd (omega arith)
+  sixteen_full (book_full r h f) e = f
+  sixteen_full (reader_refuses a n) e = absurd (no_late a (omega arith))
 
   -- every code from 16 on has place 0
   pub late_codes : {s : Said} {b' : Book} {after : List ℕ} → Takes b l room s b' after → 16 ≤ s.code → s.place ≡ 0
-  late_codes (counted o r h f u y) g = absurd (omega arith)
-  late_codes (not_borne_out n) g = refl
-  late_codes (book_full o r h f) g = refl
-  late_codes (reader_refuses o a m) g = absurd (no_late a g)
+  late_codes (counted r h f u) g = absurd (omega arith)
+  late_codes (book_full r h f) g = refl
+  late_codes (reader_refuses a m) g = absurd (no_late a g)

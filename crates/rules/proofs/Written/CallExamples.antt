@@ -16,8 +16,8 @@ use Rattle.rules.specs.Writing.{Writes, stored}
 use Rattle.rules.specs.Asked.{says, Texted, Viewed, Sought}
 use Rattle.rules.specs.Bytes.{ascii}
 use Rattle.rules.specs.Calendar.{days_of_years, days_of_months}
-use Rattle.rules.specs.Book.{Takes, TakesBack, Under}
-use Rattle.rules.specs.Examples.{Call, reads, writes, takes_text, looks_up, views, takes, takes_back, counts, relabels, calls, CallHolds, CallsHold}
+use Rattle.rules.specs.Book.{Takes, Under}
+use Rattle.rules.specs.Examples.{Call, reads, writes, takes_text, looks_up, views, takes, counts, relabels, calls, CallHolds, CallsHold}
 use Rattle.rules.proofs.Machine.Statements.{name_discrete}
 use Rattle.rules.proofs.Machine.Returns.{Return, returns}
 use Rattle.rules.proofs.Machine.Labels.{reader, answer}
@@ -32,9 +32,7 @@ use Rattle.rules.proofs.Machine.Queries.{texted_of, sought_of, viewed_of}
 use Rattle.rules.proofs.Tables.Asked.{texted_there, viewed_there, sought_there}
 use Rattle.rules.proofs.Written.Outcome.{written_of, writes_there}
 use Rattle.rules.proofs.Book.Counting.{under_of, under_there}
-use Rattle.rules.proofs.Book.Busiest.{leader_of}
 use Rattle.rules.proofs.Book.Takings.{Left, leaves, taken_of, taken_by}
-use Rattle.rules.proofs.Book.TakingsBack.{LeftBack, leaves_back, back_of, back_by}
 
 -- a reading accepts, and the written label of its rows is these bytes
 record Rewritten (label after : List ℕ) : Type 0 where
@@ -60,7 +58,6 @@ Computed (takes_text label lent row room s after) = texted_of label lent row roo
 Computed (looks_up label lent name row s) = sought_of label lent name row ≡ s
 Computed (views label lent row p) = viewed_of label lent row ≡ p
 Computed (takes b label room s b' after) = taken_of b label room ≡ leaves s b' after
-Computed (takes_back b n s b') = back_of b n ≡ leaves_back s b'
 Computed (counts label n) = Counted (ascii label) n
 Computed (relabels label after) = Rewritten label after
 
@@ -80,7 +77,6 @@ holds (takes_text label lent row room s after) e = subst (λ (o : Return). Texte
 holds (looks_up label lent name row s) e = subst (Sought label lent name row) e (sought_there label lent row name)
 holds (views label lent row p) e = subst (Viewed label lent row) e (viewed_there label lent row)
 holds (takes b label room s b' after) e = subst (λ (o : Left). Takes b label room o.said o.kept o.room) e (taken_by b label room)
-holds (takes_back b n s b') e = subst (λ (o : LeftBack). TakesBack b n o.said o.kept) e (back_by b n)
 holds (counts label n) e =
     let r : Reads base (ascii label) (accepted e.rows e.past) = subst (Reads base (ascii label)) e.reading (reads_sound base (ascii label)) in
     record { rows = e.rows; past = e.past; reads = r; under = subst (Under (ascii label) e.rows) e.counting (under_there r) }
@@ -93,7 +89,7 @@ all_hold no_more = tt
 all_hold (◌and◌ {x} e h) = (holds x e, all_hold h)
 
 pub calls_hold : CallsHold calls
-unfolding name_discrete ℕ_discrete dec_lt dec_le unpadded digits wide indent is_name reassemble keep join breaks judge_table decode field value_onto is_text is_symbol from_of seeks texted_of sought_of viewed_of written_of days_of_years days_of_months under_of leader_of taken_of back_of
+unfolding name_discrete ℕ_discrete dec_lt dec_le unpadded digits wide indent is_name reassemble keep join breaks judge_table decode field value_onto is_text is_symbol from_of seeks texted_of sought_of viewed_of written_of days_of_years days_of_months under_of taken_of
 calls_hold =
     all_hold {xs = calls}
     (refl and refl and refl and refl and refl and refl and refl and refl and refl and refl and refl and refl and refl and refl and refl and refl and refl and refl
@@ -118,6 +114,4 @@ calls_hold =
     and (record { rows = _; past = _; reading = refl; counting = refl })
     and (record { rows = _; past = _; reading = refl; counting = refl })
     and (record { rows = _; past = _; reading = refl; counting = refl })
-    and refl and refl and refl and refl and refl and refl and refl and refl and refl and refl and refl and refl and refl and refl and refl and refl
-    and refl and refl and refl and refl and refl and refl and refl and refl and refl and refl and refl and refl and refl and refl and refl and refl and refl and refl
     and (record { rows = _; past = _; reading = refl; writing = refl; short = omega arith; short_after = omega arith }) and no_more)

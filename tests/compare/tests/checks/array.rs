@@ -4,7 +4,6 @@
 //! START_TIME stands about there.
 
 use compare::{Call, Case};
-use odl_model::book::Book;
 use odl_model::random::{self, Random};
 
 const ARRAY: usize = 16_384;
@@ -68,7 +67,7 @@ fn with_start_time(mut label: Vec<u8>) -> Vec<u8> {
 fn sessions_whose_start_time_is_about_where_the_array_ends_agree() {
     for before in ARRAY - 30..=ARRAY + 10 {
         let label = with_start_time(label_for(before, before));
-        for book in [Book::EMPTY, Book::of([125_000; 8])] {
+        for book in [[0; 8], [125_000; 8]] {
             let case = Case::take(book, &label, 0);
             assert_eq!(case.room_needed(), before + 21);
             case.check_rooms().unwrap_or_else(|text| panic!("{text}"));
@@ -82,11 +81,11 @@ fn sessions_with_long_tables_agree() {
         let last = with_start_time(label_for(before, 0));
         let first = [b"start_time=1979-07-09T00:30+1 ", &last[..]].concat();
         for (label, weekday) in [(last, 6), (first, 0)] {
-            let mut book = odl::raw::Book::default();
+            let mut book = odl::raw::Book { counts: [0; 8] };
             let mut room = vec![0; 5 * label.len()];
             assert_eq!(odl::raw::take(&mut book, &label, &mut room).code, 0);
             assert_eq!((book.counts[weekday], book.counts[7]), (1, 0));
-            for book in [Book::EMPTY, Book::of([u32::MAX; 8])] {
+            for book in [[0; 8], [u32::MAX; 8]] {
                 let rooms = Case::take(book, &label, 0).check_rooms();
                 rooms.unwrap_or_else(|text| panic!("{text}"));
             }

@@ -1,9 +1,8 @@
 //! The list of examples: its answers and rows, and everything near them.
 
+use crate::support::unescaped;
 use compare::{Call, Case};
 use odl::{Date, Join, Label, Moment, Row, Time, Zone};
-use odl_model::book::Book;
-use odl_model::listed::unescaped;
 
 const LIST: &str = include_str!("../../../../examples/vectors.txt");
 
@@ -126,12 +125,11 @@ fn listed_answers_and_rows_are_given() {
 #[test]
 fn listed_labels_are_taken_as_they_are_read() {
     for example in examples() {
-        for book in [Book::EMPTY, Book::of([125_000; 8])] {
+        for book in [[0; 8], [125_000; 8]] {
             let rooms = Case::take(book, &example.label, 0).check_rooms();
             assert!(rooms.is_ok(), "{}: {rooms:?}", example.name);
         }
-        let room = 5 * example.label.len();
-        let taken = Case::take(Book::of([1; 8]), &example.label, room).check();
+        let taken = Case::take([1; 8], &example.label, 5 * example.label.len()).check();
         assert_eq!(taken, Ok(example.answer), "{}", example.name);
     }
 }

@@ -1,7 +1,6 @@
 //! The library against the model and the documents' examples.
 
 mod array;
-mod busiest;
 mod calendar;
 mod decimals;
 mod documents;
@@ -12,9 +11,6 @@ mod odd;
 mod random;
 mod sessions;
 mod sessions_listed;
-mod small_books;
 mod support;
-mod taking_back;
-mod takings_back_listed;
 mod weekdays;
 mod zones;

@@ -2,17 +2,17 @@
 
 use crate::support::seed;
 use compare::chance::{self, Tally, Until, NO_KINDS, ROWS_WRITTEN};
-use compare::{books, takings_back, Call};
+use compare::{books, Call};
 use odl::Row;
 use odl_model::random::Random;
 use odl_model::{dates, reals, rows, sessions, zones};
 use std::io::Write;
 
-const CASES: u64 = 274_000;
+const CASES: u64 = 205_000;
 
 /// Every case of the rule for rows, of written reals, of the calendar and
-/// decimals, of zones and their marks, of the session book, its busiest day and
-/// takings back, and of kinds that no row has must come up more often than this.
+/// decimals, of zones and their marks, of the session book, and of kinds that no
+/// row has must come up more often than this.
 const LEAST: u64 = 20;
 
 #[test]
@@ -76,10 +76,9 @@ fn check_zones(tally: &Tally) {
     }
 }
 
-/// Labels were taken in every case of the session book, with books, days and rooms
-/// in every case, and sessions taken back in every case; in histories labels were
-/// taken, and refused by the label, the room and the book, and sessions were taken
-/// back or not.
+/// Labels were taken in every case of the session book, with books and rooms in
+/// every case; in histories labels were taken, and refused by the label, the room
+/// and the book.
 fn check_sessions(tally: &Tally) {
     for case in sessions::all() {
         let count = tally.sessions.get(&case).copied().unwrap_or(0);
@@ -89,36 +88,22 @@ fn check_sessions(tally: &Tally) {
         let count = tally.takings.get(&case).copied().unwrap_or(0);
         assert!(count > LEAST, "{case:?}: {count}");
     }
-    for case in takings_back::all() {
-        let count = tally.takings_back.get(&case).copied().unwrap_or(0);
-        assert!(count > LEAST, "{case:?}: {count}");
-    }
-    for (call, first, last) in [
-        (Call::Take, 0, 0),
-        (Call::Take, 1, 10),
-        (Call::Take, 11, 11),
-        (Call::Take, 16, 16),
-        (Call::TakeBack, 0, 0),
-        (Call::TakeBack, 22, 22),
-        (Call::TakeBack, 23, 23),
-    ] {
-        let of_codes = tally.histories.range((call, first)..=(call, last));
-        let count: u64 = of_codes.map(|(_, count)| count).sum();
-        assert!(count > LEAST, "{call:?} codes {first} to {last}: {count}");
+    for codes in [0..=0, 1..=10, 11..=11, 16..=16] {
+        let count: u64 = tally.histories.range(codes.clone()).map(|(_, n)| n).sum();
+        assert!(count > LEAST, "codes {codes:?} in histories: {count}");
     }
 }
 
 /// Every call answered with every code that it has.
 fn check_codes(tally: &Tally) {
-    let expected: [(Call, &[u8]); 8] = [
+    let expected: [(Call, &[u8]); 7] = [
         (Call::Read, &[0, 1, 2, 3, 4, 5, 6, 7, 8, 9, 10, 11]),
         (Call::Write, &[0, 1, 11, 12, 13]),
         (Call::Rewrite, &[0, 1, 2, 3, 4, 5, 6, 7, 8, 9, 10, 11, 13]),
         (Call::Text, &[0, 1, 11, 12, 15]),
         (Call::Find, &[0, 1, 12, 14, 15]),
         (Call::Name, &[0, 15]),
-        (Call::Take, &[0, 1, 2, 3, 4, 5, 6, 7, 8, 9, 10, 11, 16, 24]),
-        (Call::TakeBack, &[0, 22, 23, 24]),
+        (Call::Take, &[0, 1, 2, 3, 4, 5, 6, 7, 8, 9, 10, 11, 16]),
     ];
     let expected: Vec<(Call, u8)> = expected
         .iter()

@@ -1,29 +1,45 @@
 //! The session book (02 §1) at its borders: any counters, any room, names that
 //! are nearly START_TIME, and a book that is handed on until it is full.
 
-use crate::support::{one_more, LABELS, NEEDED};
-use compare::{library_book, model_book, Case};
+use compare::Case;
 use odl::raw;
-use odl_model::book::{Book, Counts};
+use odl_model::book::Book;
 
-/// The library's answer to a taking into a book of these counters, and the book
-/// afterwards.
-fn taken(counts: Counts, label: &[u8], room: usize) -> (u8, Book) {
-    let mut book = library_book(Book::of(counts));
+/// A label for each counter, Monday's first: 24 bytes of table each.
+const LABELS: [&[u8]; 8] = [
+    b"START_TIME=1979-07-02 END",
+    b"START_TIME=1979-07-03 END",
+    b"START_TIME=1979-07-04 END",
+    b"START_TIME=1979-07-05 END",
+    b"START_TIME=1979-07-06 END",
+    b"START_TIME=1979-07-07 END",
+    b"START_TIME=1979-07-08 END",
+    b"START_TIME=05:19:11 END",
+];
+
+const NEEDED: usize = 24;
+
+/// The library's answer to a taking, and the book afterwards.
+fn taken(counts: Book, label: &[u8], room: usize) -> (u8, Book) {
+    let mut book = raw::Book { counts };
     let answer = raw::take(&mut book, label, &mut vec![0; room]);
-    (answer.code, model_book(&book))
+    (answer.code, book.counts)
 }
 
-/// Checks that both take this label into a book of these counters, or find the
-/// book full.
+fn one_more(mut book: Book, counter: usize) -> Book {
+    book[counter] += 1;
+    book
+}
+
+/// Checks that both take this label into the book, or find the book full.
 #[track_caller]
-fn check_taken(counts: Counts, counter: usize, is_full: bool) {
-    let (book, label) = (Book::of(counts), LABELS[counter]);
+fn check_taken(book: Book, counter: usize, is_full: bool) {
+    let label = LABELS[counter];
     let expected = match is_full {
         true => (16, book),
-        false => (0, Book::of(one_more(counts, counter))),
+        false => (0, one_more(book, counter)),
     };
-    assert_eq!(taken(counts, label, NEEDED), expected);
+    assert_eq!(taken(book, label, NEEDED), expected);
     Case::take(book, label, 0).check_rooms().unwrap();
 }
 
@@ -31,16 +47,16 @@ fn check_taken(counts: Counts, counter: usize, is_full: bool) {
 fn every_counter_counts_up_to_a_million_in_all() {
     for counter in 0..8 {
         for filled in 0..8 {
-            let counts = |count| {
-                let mut counts = [0; 8];
-                counts[filled] = count;
-                counts
+            let book = |count| {
+                let mut book = [0; 8];
+                book[filled] = count;
+                book
             };
             for left in [0, 1, 65_535, 65_536, 999_998, 999_999] {
-                check_taken(counts(left), counter, false);
+                check_taken(book(left), counter, false);
             }
             for full in [1_000_000, 1_000_001, 1 << 31, u32::MAX] {
-                check_taken(counts(full), counter, true);
+                check_taken(book(full), counter, true);
             }
         }
     }
@@ -49,7 +65,7 @@ fn every_counter_counts_up_to_a_million_in_all() {
 #[test]
 fn sums_past_32_bits_are_full() {
     let (half, quarter, eighth) = (1 << 31, 1 << 30, 1 << 29);
-    for counts in [
+    for book in [
         [half, half, 0, 0, 0, 0, 0, 0],
         [0, 0, 0, 0, 0, 0, half, half],
         [quarter, 0, quarter, 0, quarter, 0, quarter, 0],
@@ -60,7 +76,7 @@ fn sums_past_32_bits_are_full() {
         [u32::MAX; 8],
     ] {
         for counter in 0..8 {
-            check_taken(counts, counter, true);
+            check_taken(book, counter, true);
         }
     }
 }
@@ -73,7 +89,7 @@ fn the_last_place_is_taken_however_the_sum_is_made_up() {
         check_taken(equal, counter, true);
         equal[counter] -= 1;
         check_taken(equal, counter, false);
-        let mut doubling: Counts = std::array::from_fn(|at| 3_921 << at);
+        let mut doubling: Book = std::array::from_fn(|at| 3_921 << at);
         doubling[7 - counter] += 1_000_000 - 3_921 * 255;
         check_taken(doubling, counter, true);
         doubling[7 - counter] -= 1;
@@ -83,10 +99,9 @@ fn the_last_place_is_taken_however_the_sum_is_made_up() {
 
 #[test]
 fn every_room_is_long_enough_or_not() {
-    for (counts, code_if_right) in [([0; 8], 0), ([125_000; 8], 16)] {
+    for (book, code_if_right) in [([0; 8], 0), ([125_000; 8], 16)] {
         for room in 0..2 * NEEDED {
-            let case = Case::take(Book::of(counts), LABELS[6], room);
-            let answer = case.check().unwrap();
+            let answer = Case::take(book, LABELS[6], room).check().unwrap();
             match room < NEEDED {
                 true => assert_eq!(answer, (11, 25, NEEDED)),
                 false => assert_eq!(answer.0, code_if_right),
@@ -109,15 +124,14 @@ fn only_the_name_itself_is_found() {
     let mut found = 0;
     for name in names {
         let label = [&name[..], b"=1979-07-08 END"].concat();
-        let (code, ..) = Case::take(Book::EMPTY, &label, 200).check().unwrap();
+        let (code, ..) = Case::take([0; 8], &label, 200).check().unwrap();
         let counter = match name.eq_ignore_ascii_case(NAME) {
             true => 6,
             false => 7,
         };
         if code == 0 {
             found += usize::from(counter == 6);
-            let expected = Book::of(one_more([0; 8], counter));
-            assert_eq!(taken([0; 8], &label, 200), (0, expected));
+            assert_eq!(taken([0; 8], &label, 200), (0, one_more([0; 8], counter)));
         }
     }
     // Each of ten bytes in itself, and nine of them in the other case too; the
@@ -131,7 +145,6 @@ fn only_the_name_itself_is_found() {
 fn a_book_is_filled_call_by_call() {
     let mut book = raw::Book {
         counts: [999_900, 0, 0, 0, 0, 0, 0, 0],
-        busiest: 1,
     };
     let mut expected = book.counts;
     for call in 0..150 {
@@ -148,7 +161,7 @@ fn a_book_is_filled_call_by_call() {
         if code == 0 {
             expected = one_more(expected, counter);
         }
-        assert_eq!((book.counts, book.busiest), (expected, 1), "call {call}");
+        assert_eq!(book.counts, expected, "call {call}");
     }
     assert_eq!(book.counts.iter().sum::<u32>(), 1_000_000);
 }

@@ -1,31 +1,10 @@
 //! What the checks share.
 
 use odl::raw::{self, Answer};
-use odl_model::book::Counts;
 
 /// The seed of the random checks; ODL_SEED chooses another.
 pub fn seed() -> u64 {
     std::env::var("ODL_SEED").map_or(1, |seed| seed.parse().unwrap())
-}
-
-/// A label for each counter, Monday's first: `NEEDED` bytes of table each.
-pub const LABELS: [&[u8]; 8] = [
-    b"START_TIME=1979-07-02 END",
-    b"START_TIME=1979-07-03 END",
-    b"START_TIME=1979-07-04 END",
-    b"START_TIME=1979-07-05 END",
-    b"START_TIME=1979-07-06 END",
-    b"START_TIME=1979-07-07 END",
-    b"START_TIME=1979-07-08 END",
-    b"START_TIME=05:19:11 END",
-];
-
-pub const NEEDED: usize = 24;
-
-/// These counters with one more in that at this place.
-pub fn one_more(mut counts: Counts, counter: usize) -> Counts {
-    counts[counter] += 1;
-    counts
 }
 
 /// The library's reading of a label, and the table, empty if it is refused.
@@ -108,4 +87,27 @@ pub fn check_row_refused(row: MomentRow) {
     let answer = result(100, |out| raw::write(b"A", &table, out)).0;
     let given = (answer.code, answer.place, answer.length);
     assert_eq!(given, (12, 22, 0), "{row:?}");
+}
+
+/// The bytes that the escapes of the lists stand for.
+pub fn unescaped(text: &str) -> Vec<u8> {
+    let mut bytes = Vec::new();
+    let mut rest = text.chars();
+    while let Some(character) = rest.next() {
+        bytes.push(match character {
+            '\\' => match rest.next() {
+                Some('n') => b'\n',
+                Some('r') => b'\r',
+                Some('t') => b'\t',
+                Some('"') => b'"',
+                Some('x') => {
+                    let digits: String = rest.by_ref().take(2).collect();
+                    u8::from_str_radix(&digits, 16).unwrap()
+                }
+                other => panic!("no escape: {other:?}"),
+            },
+            _ => u8::try_from(character).unwrap(),
+        });
+    }
+    bytes
 }

@@ -2,7 +2,6 @@
 //! must hold of every label and table.
 
 mod book;
-mod busiest;
 mod calendar;
 mod examples;
 mod layout;
@@ -14,8 +13,6 @@ mod rulings;
 mod sessions;
 mod sessions_listed;
 mod support;
-mod taking_back;
-mod takings_back_listed;
 mod vectors;
 mod weekdays;
 mod zones;

@@ -1,8 +1,7 @@
 //! What the checks share. Rows are described from the bytes of the table by
 //! its printed layout, not by way of the model's own decoder.
 
-use odl_model::book::Book;
-use odl_model::{read, take, write, Answer};
+use odl_model::{read, write, Answer};
 use std::collections::BTreeMap;
 use std::fmt::Debug;
 
@@ -40,15 +39,6 @@ pub fn check_exact_room(call: impl Fn(&mut [u8]) -> Answer) {
         assert_eq!(call(&mut short), Answer { code: 11, ..whole });
         assert!(short.iter().all(|&byte| byte == UNTOUCHED));
     }
-}
-
-/// A taking with room of this length: the answer, the book, and the room if it
-/// is not as it was.
-pub fn taking(mut book: Book, label: &[u8], room: usize) -> (Answer, Book, Option<Vec<u8>>) {
-    let before = vec![0x5A; room];
-    let mut table = before.clone();
-    let answer = take(&mut book, label, &mut table);
-    (answer, book, (table != before).then_some(table))
 }
 
 /// The table of a label that must be accepted.
@@ -197,6 +187,37 @@ pub fn escaped(bytes: &[u8]) -> String {
             _ => format!("\\x{byte:02X}"),
         })
         .collect()
+}
+
+/// The bytes that these escapes stand for.
+pub fn unescaped(text: &str) -> Vec<u8> {
+    let mut bytes = Vec::new();
+    let mut rest = text.as_bytes();
+    loop {
+        rest = match rest {
+            [] => return bytes,
+            [b'\\', b'x', high, low, after @ ..] => {
+                let digits = [*high, *low];
+                let digits = std::str::from_utf8(&digits).unwrap();
+                bytes.push(u8::from_str_radix(digits, 16).unwrap());
+                after
+            }
+            [b'\\', mark, after @ ..] => {
+                bytes.push(match mark {
+                    b'n' => b'\n',
+                    b'r' => b'\r',
+                    b't' => b'\t',
+                    b'"' => b'"',
+                    _ => panic!("no escape in {text}"),
+                });
+                after
+            }
+            [byte, after @ ..] => {
+                bytes.push(*byte);
+                after
+            }
+        };
+    }
 }
 
 /// Checks that each of these cases is shown more than a few times.

@@ -1,7 +1,6 @@
 //! The list of examples, each compared with the model.
 
-use crate::support::{described, escaped, reading};
-use odl_model::listed::unescaped;
+use crate::support::{described, escaped, reading, unescaped};
 use odl_model::Answer;
 use std::collections::HashSet;
 
