@@ -74,8 +74,8 @@ module _ (m : Mode) where
   abbrev Along : List ℕ → List ℕ → ℕ → Type 0
   Along g r k = (k' : ℕ) × (length r < k') × (search_in m k (g ++ r) ≡ behind g (search_in m k' r))
 
-  further : {c g r : List ℕ} (k : ℕ) → piece m (c ++ (g ++ r)) ≡ a_gap c (g ++ r) → Along g r k → Along (c ++ g) r (suc k)
-  further {c} {g} {r} k e a = (
+  further : {c r : List ℕ} (g : List ℕ) (k : ℕ) → piece m (c ++ (g ++ r)) ≡ a_gap c (g ++ r) → Along g r k → Along (c ++ g) r (suc k)
+  further {c} {r} g k e a = (
     a.0,
     a.1,
     simp append_assoc (ap (λ (p : Piece). onward p (search_in m k)) e ∙ ap (behind c) a.2 ∙ behind_behind c g (search_in m a.0 r)),
@@ -84,10 +84,10 @@ module _ (m : Mode) where
   along : {g r : List ℕ} → Gap m g r → (k : ℕ) → length (g ++ r) < k → Along g r k
   along (no_gap {r}) k h = (k, h, behind_nil (search_in m k r))
   along (blank h n) zero l = absurd (omega arith)
-  along (blank h n) (suc k) l = further k (piece_complete m (is_a_blank h)) (along n k (omega arith))
+  along (blank {g = g} h n) (suc k) l = further g k (piece_complete m (is_a_blank h)) (along n k (omega arith))
   along (remark c n) zero l = absurd (omega arith)
   along (remark {c} {g} {r} h n) (suc k) l =
-      further k (piece_complete m (is_comment h)) (along n k (omega (arith, comment_some h, length-append c (g ++ r), simp append_assoc at l)))
+      further g k (piece_complete m (is_comment h)) (along n k (omega (arith, comment_some h, length-append c (g ++ r), simp append_assoc at l)))
 
   pub search_complete : {l : List ℕ} {f : Ahead} → NextIs m l f → (k : ℕ) → length l < k → search_in m k l ≡ f
   search_complete (finds {g} {w} {r} {e} {q} x s) k h = let a = along x k h in a.2 ∙ go a.0 a.1

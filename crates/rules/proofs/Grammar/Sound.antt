@@ -7,7 +7,7 @@ use mathlib.Core.List.{List, [], ◌∷◌, ◌++◌, append_assoc}
 use Rattle.rules.specs.Data.{Span, Whole, one, Name, Fixed, BEGIN_OBJECT, BEGIN_GROUP, equals, comma, star, slash, caret, less, greater, lpar, rpar, lbrace, rbrace, semicolon, name, the, end, integer, based, real, moment, range, text, symbol, Placed, ◌on◌, Kind, closer, Op, first, times, divided, Row, attribute, pointer, opened, closed, an_integer, a_real, a_moment, a_text, a_symbol, a_unit, sequence, sequence_end, set, set_end, last, Opens, outside, inside, depth}
 use Rattle.rules.specs.Grammar.{Strictness, strict, relaxed, Kept, ExpOp, two_stars, one_caret, unwritten, written, Factor, factor, no_factor, by_times, by_divided, Units, no_units, units, Scalar, integer_value, based_value, real_value, date_time_value, text_value, symbol_value, identifier_value, Apart, comma_apart, beside, no_scalar, and_scalar, Sequence1, sequence_1_d, no_row, and_row, one_dimension, sequence_2_d, set_of, empty_set, scalar_value, sequence_value, set_value, range_value, unnamed, named, no_semicolon, a_semicolon, Opening, by_word, by_begin, no_statement, and_statement, Statement, assignment, pointing, block}
 use Rattle.rules.specs.Modes.{Mode}
-use Rattle.rules.proofs.Machine.Statements.{Group, in_sequence, in_row, in_set, Place, alone, within, Else, no_else, any_value, a_row, a_set_end, State, at_statement, at_semicolon, at_equals, at_pointer, at_opener, at_opened, at_closer, at_closed, at_scalar, at_number, at_member, at_row, at_next_row, at_unit, at_power, at_exponent, at_factor, at_end, Next, never, go, Answer, refuses, goes, judge, Entry, Offer, dispatch, limit, after, a_scalar, name_discrete, else, else_range, factors, member, members, rows, openings, statements, after_statement, follows, offers, step}
+use Rattle.rules.proofs.Machine.Statements.{Group, in_sequence, in_row, in_set, Place, alone, within, Else, no_else, any_value, a_row, a_set_end, State, at_statement, at_semicolon, at_equals, at_pointer, at_opener, at_opened, at_closer, at_closed, at_scalar, at_number, at_member, at_row, at_next_row, at_unit, at_power, at_exponent, at_factor, at_end, Next, never, go, Answer, refuses, goes, judge, Entry, ◌⇒◌, Offer, dispatch, limit, after, a_scalar, name_discrete, row_begins, else, else_range, factors, powers, member, members, rows, openings, statements, after_statement, follows, offers, step}
 use Rattle.rules.proofs.Grammar.Each.{Entries, entries_when, EachAnswer, each_only, each_name, each_whole, each_statement, each_also, each_scalar}
 use Rattle.rules.proofs.Grammar.Rest.{Tail, tail_label, tail_block, ended_by, RowsRest, rows_rest, ending_sequence, ending_row, ending_set, After, after_alone, after_within, FactorsRest, factors_rest, other_sequence, other_set, other_row, other_range, other_end, Rest, r_statement, r_semicolon, r_equals, r_pointer, r_opener, r_opened, r_closer, r_closed, r_scalar, r_other, r_number, r_member, r_row, r_next_row, r_unit, r_power, r_exponent, r_factor, r_end}
 
@@ -112,10 +112,12 @@ module _ (m : Mode) (s : Strictness) where
   -- a row's opening, where it must come
   lpar_row : {o : Opens} {p : Span} → Good at_next_row o (the lpar on p) (go (at_scalar (within in_row) no_else) o (sequence ∷ []))
   lpar_row {p} ys qs (r_scalar sc (after_within scs (ending_row {p = q} rr))) = simp append_assoc at (r_next_row (sequence_1_d {p = p} q sc scs) rr)
+  lpar_row ys qs (r_other t) = elim t [ ]
 
   lpar_else : {c : Place} {o : Opens} {p : Span} → Good (at_scalar c a_row) o (the lpar on p) (go (at_scalar (within in_row) no_else) o (sequence ∷ []))
   lpar_else {c} {p} ys qs (r_scalar sc (after_within scs (ending_row {p = q} rr))) =
       simp append_assoc at (r_other {c = c} (other_row (sequence_1_d {p = p} q sc scs) rr))
+  lpar_else ys qs (r_other t) = elim t [ ]
 
   lpar_value : {c : Place} {o : Opens} {p : Span} → Good (at_scalar c any_value) o (the lpar on p) (go (at_scalar (within in_sequence) a_row) o (sequence ∷ []))
   lpar_value {c} {p} ys qs (r_scalar sc (after_within scs (ending_sequence {p = q} t))) =
@@ -136,10 +138,12 @@ module _ (m : Mode) (s : Strictness) where
 
   comma_member : {g : Group} {o : Opens} {p : Span} → Good (at_member g) o (the comma on p) (go (at_scalar (within g) no_else) o [])
   comma_member {p} ys qs (r_scalar sc a) = r_member (scalars_cons (comma_apart {p = p}) sc a)
+  comma_member ys qs (r_other t) = elim t [ ]
 
   member_beside : {g : Group} {o : Opens} {ys : List Placed} {qs : List Row} → m.version_1 ≡ true →
       Rest m s (at_scalar (within g) no_else) o ys qs → Rest m s (at_member g) o ys qs
   member_beside h (r_scalar sc a) = r_member (scalars_cons (beside h) sc a)
+  member_beside h (r_other t) = elim t [ ]
 
   sequence_ends : {o : Opens} {p : Span} → Good (at_member in_sequence) o (the rpar on p) (go at_semicolon o (sequence_end ∷ []))
   sequence_ends ys qs (r_semicolon t) = r_member (after_within no_scalar (ending_sequence t))
@@ -159,6 +163,7 @@ module _ (m : Mode) (s : Strictness) where
   row_beside : {o : Opens} {p : Span} → m.version_1 ≡ true → Good at_row o (the lpar on p) (go (at_scalar (within in_row) no_else) o (sequence ∷ []))
   row_beside {p} h ys qs (r_scalar sc (after_within scs (ending_row {p = q} rr))) =
       simp append_assoc at (r_row (rows_cons (beside h) (sequence_1_d {p = p} q sc scs) rr))
+  row_beside h ys qs (r_other t) = elim t [ ]
 
   name_unit : {c : Place} {op : Op} {o : Opens} {n : Name} {p : Span} → Good (at_unit c op) o (name n on p) (go (at_power c op p) o [])
   name_unit ys qs (r_power e fr) = r_unit (factor e) fr
@@ -256,10 +261,11 @@ module _ (m : Mode) (s : Strictness) where
 
   sound_statements : (v : Bool) → m.pvl ≡ v → (o : Opens) → Sound at_statement o (statements v o)
   sound_statements v h outside =
-      each_statement (Good at_statement outside) (λ x. tt) _ _ _ (λ n p. name_attribute)
+      each_statement (Good at_statement outside) (λ x. tt) _ _ (openings v outside) (λ n p. name_attribute)
       (λ b p. sound_limit at_statement outside (end b on p) (Bool-discrete b true) 9 at_end outside (last p.upto ∷ []) end_label) (sound_openings v h outside)
   sound_statements v h (inside k n o) =
-      each_statement (Good at_statement (inside k n o)) (λ x. tt) _ _ _ (λ n p. name_attribute) (λ b p. tt) (λ p. close_block, sound_openings v h (inside k n o))
+      each_statement (Good at_statement (inside k n o)) (λ x. tt) _ _ (closer k ⇒ go (at_closer n) o (closed k ∷ []) ∷ openings v (inside k n o)) (λ n p. name_attribute)
+      (λ b p. tt) (λ p. close_block, sound_openings v h (inside k n o))
 
   sound_ended : (v : Bool) → m.pvl ≡ v → (o : Opens) → Sound at_semicolon o (after_statement v o)
   sound_ended true h o =
@@ -273,7 +279,7 @@ module _ (m : Mode) (s : Strictness) where
   sound_member in_set o = (λ p. comma_member, (λ p. set_ends, tt))
 
   sound_members : (v : Bool) → m.version_1 ≡ v → (g : Group) (o : Opens) → Sound (at_member g) o (members v g o)
-  sound_members false h g o = each_only (Good (at_member g) o) (λ x. tt) _ (sound_member g o)
+  sound_members false h g o = each_only (Good (at_member g) o) (λ x. tt) (member g o) (sound_member g o)
   sound_members true h g o =
       each_scalar (Good (at_member g) o) (λ x. tt) (within g) o (λ a b. never) (member g o)
       (λ n p. wide (name n on p) (go (at_member g) o (a_symbol p ∷ [])) (one_element (within g) no_else o identifier_value))
@@ -304,9 +310,9 @@ module _ (m : Mode) (s : Strictness) where
   sound_offers : (q : State) (o : Opens) → Sound q o (offers m q o)
   sound_offers at_statement o = sound_statements m.pvl refl o
   sound_offers at_semicolon o = sound_ended m.pvl refl o
-  sound_offers at_equals o = each_only (Good at_equals o) (λ x. tt) _ (λ p. equals_value, tt)
+  sound_offers at_equals o = each_only (Good at_equals o) (λ x. tt) (equals ⇒ go (at_scalar alone any_value) o [] ∷ []) (λ p. equals_value, tt)
   sound_offers at_pointer o = each_name (Good at_pointer o) (λ x. tt) _ (λ n p. name_pointer)
-  sound_offers (at_opener k) o = each_only (Good (at_opener k) o) (λ x. tt) _ (λ p. equals_opener, tt)
+  sound_offers (at_opener k) o = each_only (Good (at_opener k) o) (λ x. tt) (equals ⇒ go (at_opened k) o [] ∷ []) (λ p. equals_opener, tt)
   sound_offers (at_opened k) o = each_name (Good (at_opened k) o) (λ x. tt) _ (λ n p. name_opened)
   sound_offers (at_closer n) o =
       each_also (Good (at_closer n) o) (λ x. tt) equals (go (at_closed n) o []) (after_statement m.pvl o) (λ p. equals_closer)
@@ -318,14 +324,14 @@ module _ (m : Mode) (s : Strictness) where
       each_also (Good (at_number c) o) (λ x. tt) less (go (at_unit c first) o []) (follows m c o) (λ p. less_unit)
       (λ x. good_wider (after c) (at_number c) o x (λ ys qs. number_units) (dispatch (follows m c o) x) (sound_follows c o x))
   sound_offers (at_member g) o = sound_follows (within g) o
-  sound_offers at_row o = each_only (Good at_row o) (λ x. tt) _ (sound_rows o)
-  sound_offers at_next_row o = each_only (Good at_next_row o) (λ x. tt) _ (λ p. lpar_row, tt)
+  sound_offers at_row o = each_only (Good at_row o) (λ x. tt) (rows m.version_1 o) (sound_rows o)
+  sound_offers at_next_row o = each_only (Good at_next_row o) (λ x. tt) (row_begins o ∷ []) (λ p. lpar_row, tt)
   sound_offers (at_unit c op) o = each_name (Good (at_unit c op) o) (λ x. tt) _ (λ n p. name_unit)
-  sound_offers (at_power c op p) o = each_only (Good (at_power c op p) o) (λ x. tt) _
+  sound_offers (at_power c op p) o = each_only (Good (at_power c op p) o) (λ x. tt) (powers m.version_1 c op p o)
       (λ q. power_exponent two_stars, entries_when (Good (at_power c op p) o) (λ x. tt) m.version_1 caret _ (factors c o (a_unit op p one ∷ [])) (λ h q. power_exponent (one_caret h)) (sound_power c op p o))
   sound_offers (at_exponent c op p) o =
       each_whole (Good (at_exponent c op p) o) (λ x. tt) _ (λ w q. sound_limit (at_exponent c op p) o (integer w on q) (dec_le w.size 99) 5 (at_factor c) o (a_unit op p w ∷ []) integer_exponent)
-  sound_offers (at_factor c) o = each_only (Good (at_factor c) o) (λ x. tt) _ (sound_factors c o)
+  sound_offers (at_factor c) o = each_only (Good (at_factor c) o) (λ x. tt) (factors c o []) (sound_factors c o)
   sound_offers at_end o = each_only (Good at_end o) (λ x. tt) [] tt
 
   pub sound_step : (q : State) (o : Opens) (x : Placed) {q' : State} {o' : Opens} {r : List Row} → step m s q o x ≡ goes q' o' r →

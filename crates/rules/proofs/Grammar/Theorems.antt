@@ -8,11 +8,11 @@ use mathlib.Core.Bool.{Bool, true, false, Bool-discrete}
 use mathlib.Core.List.{List, [], ◌∷◌, ◌++◌, append_assoc, append-nil}
 use native.Mathlib.Omega.{arith}
 use native.Mathlib.Bridge.{le_by_compare, IsLe}
-use Rattle.rules.specs.Data.{Span, Whole, one, Fixed, OBJECT, GROUP, BEGIN_OBJECT, BEGIN_GROUP, caret, lpar, Elem, name, the, end, integer, based, real, moment, range, text, symbol, Placed, ◌on◌, Kind, object, group, Op, Row, Opens, outside, inside, depth}
+use Rattle.rules.specs.Data.{Span, Whole, one, Fixed, OBJECT, GROUP, BEGIN_OBJECT, BEGIN_GROUP, equals, comma, caret, less, lpar, rpar, semicolon, Elem, name, the, end, integer, based, real, moment, range, text, symbol, Placed, ◌on◌, Kind, object, group, closer, Op, first, Row, pointer, opened, closed, a_unit, sequence, sequence_end, last, Opens, outside, inside, depth}
 use Rattle.rules.specs.Grammar.{Strictness, strict, relaxed, unwritten, factor, no_factor, no_units, text_value, no_scalar, sequence_1_d, no_row, scalar_value, unnamed, no_semicolon, no_statement, Label, label}
 use Rattle.rules.specs.Modes.{Mode}
 use Rattle.rules.specs.Faults.{Viable, PastLimit, exponent_past, name_differs, too_deep, begun_too_deep, not_set_off, Code, cannot_stand, past_limit, Refused, Early}
-use Rattle.rules.proofs.Machine.Statements.{Group, in_sequence, in_row, in_set, Place, alone, within, Else, no_else, any_value, a_row, a_set_end, State, at_statement, at_semicolon, at_equals, at_pointer, at_opener, at_opened, at_closer, at_closed, at_scalar, at_number, at_member, at_row, at_next_row, at_unit, at_power, at_exponent, at_factor, at_end, Next, never, go, past, Answer, refuses, goes, judge, Entry, dispatch, limit, a_scalar, name_discrete, else, else_range, powers, member, members, rows, openings, statements, after_statement, follows, offers, step}
+use Rattle.rules.proofs.Machine.Statements.{Group, in_sequence, in_row, in_set, Place, alone, within, Else, no_else, any_value, a_row, a_set_end, State, at_statement, at_semicolon, at_equals, at_pointer, at_opener, at_opened, at_closer, at_closed, at_scalar, at_number, at_member, at_row, at_next_row, at_unit, at_power, at_exponent, at_factor, at_end, Next, never, go, past, Answer, refuses, goes, judge, Entry, ◌⇒◌, dispatch, limit, a_scalar, name_discrete, row_begins, else, else_range, factors, powers, member, members, rows, openings, statements, after_statement, follows, offers, step}
 use Rattle.rules.proofs.Grammar.Each.{Entries, entries_when, EachAnswer, each_only, each_name, each_whole, each_statement, each_also, each_scalar}
 use Rattle.rules.proofs.Grammar.Rest.{Tail, tail_label, tail_block, Ended, ended_by, RowsRest, rows_rest, Ending, ending_sequence, ending_row, ending_set, After, after_alone, after_within, FactorsRest, factors_rest, Rest, r_statement, r_semicolon, r_equals, r_pointer, r_opener, r_opened, r_closer, r_closed, r_scalar, r_number, r_member, r_row, r_next_row, r_unit, r_power, r_exponent, r_factor, r_end}
 use Rattle.rules.proofs.Grammar.Run.{Reach, here, by_step, Accepts, RunOutcome, ended, refused, prepend, carry, run, reading, reach_run, Trace, all_taken, some_refused, trace}
@@ -104,7 +104,7 @@ module _ (m : Mode) (s : Strictness) where
   run→accepted : {xs : List Placed} {rs : List Row} {q : State} {o : Opens} → run m s at_statement outside xs ≡ ended q o rs → Reach m s at_statement outside xs q o rs
   run→accepted {xs} {rs} {q} {o} e = taken (subst (Trace m s at_statement outside xs) e (trace m s at_statement outside xs))
     where
-      taken : Trace m s at_statement outside xs (ended q o rs) → Reach m s at_statement outside xs q o rs
+      taken : {xs : List Placed} → Trace m s at_statement outside xs (ended q o rs) → Reach m s at_statement outside xs q o rs
       taken (all_taken r) = r
 
   pub labels : {xs : List Placed} {rs : List Row} → Label m s xs rs ↔ (reading m s xs ≡ ended at_end outside rs)
@@ -183,11 +183,14 @@ module _ (m : Mode) where
 
   limited_statements : (v : Bool) (o : Opens) → EachAnswer Limited unlimited (statements v o)
   limited_statements v outside =
-      each_statement Limited unlimited _ _ _ (λ n p. tt) (λ b p. limited (Bool-discrete b true) (end b) p 9 _ _ _ not_set_off) (limited_openings v outside)
-  limited_statements v (inside k n o) = each_statement Limited unlimited _ _ _ (λ n p. tt) (λ b p. tt) (λ p. tt, limited_openings v (inside k n o))
+      each_statement Limited unlimited _ _ (openings v outside) (λ n p. tt)
+      (λ b p. limited (Bool-discrete b true) (end b) p 9 at_end outside (last p.upto ∷ []) not_set_off) (limited_openings v outside)
+  limited_statements v (inside k n o) =
+      each_statement Limited unlimited _ _ (closer k ⇒ go (at_closer n) o (closed k ∷ []) ∷ openings v (inside k n o)) (λ n p. tt) (λ b p. tt)
+      (λ p. tt, limited_openings v (inside k n o))
 
   limited_ended : (v : Bool) (o : Opens) → EachAnswer Limited unlimited (after_statement v o)
-  limited_ended true o = each_also Limited unlimited _ _ _ (λ p. tt) (limited_statements true o)
+  limited_ended true o = each_also Limited unlimited semicolon (go at_statement o []) (statements true o) (λ p. tt) (limited_statements true o)
   limited_ended false o = limited_statements false o
 
   limited_member : (g : Group) (o : Opens) → Entries Limited unlimited (member g o)
@@ -200,8 +203,8 @@ module _ (m : Mode) where
   limited_scalar c o f l h t = each_scalar Limited unlimited c o f l (λ n p. tt) (λ w p. tt) (λ w p. tt) (λ x p. tt) (λ t p. tt) h (λ p. tt) (λ p. tt) t
 
   limited_members : (v : Bool) (g : Group) (o : Opens) → EachAnswer Limited unlimited (members v g o)
-  limited_members true g o = limited_scalar (within g) o _ _ (λ lo hi p. tt) (limited_member g o)
-  limited_members false g o = each_only Limited unlimited _ (limited_member g o)
+  limited_members true g o = limited_scalar (within g) o (λ lo hi. never) (member g o) (λ lo hi p. tt) (limited_member g o)
+  limited_members false g o = each_only Limited unlimited (member g o) (limited_member g o)
 
   limited_follows : (c : Place) (o : Opens) → EachAnswer Limited unlimited (follows m c o)
   limited_follows alone o = limited_ended m.pvl o
@@ -221,30 +224,36 @@ module _ (m : Mode) where
   limited_range v a_set_end o lo hi p = tt
 
   limited_rows : (v : Bool) (o : Opens) → Entries Limited unlimited (rows v o)
-  limited_rows v o = entries_when Limited unlimited v lpar _ _ (λ h p. tt) (λ p. tt, (λ p. tt, tt))
+  limited_rows v o =
+      entries_when Limited unlimited v lpar (go (at_scalar (within in_row) no_else) o (sequence ∷ []))
+      (comma ⇒ go at_next_row o [] ∷ rpar ⇒ go at_semicolon o (sequence_end ∷ []) ∷ []) (λ h p. tt) (λ p. tt, (λ p. tt, tt))
 
   limited_powers : (v : Bool) (c : Place) (op : Op) (p : Span) (o : Opens) → Entries Limited unlimited (powers v c op p o)
-  limited_powers v c op p o = (λ q. tt, entries_when Limited unlimited v caret _ _ (λ h q. tt) (λ q. tt, (λ q. tt, (λ q. tt, tt))))
+  limited_powers v c op p o =
+      (λ q. tt, entries_when Limited unlimited v caret (go (at_exponent c op p) o []) (factors c o (a_unit op p one ∷ [])) (λ h q. tt) (λ q. tt, (λ q. tt, (λ q. tt, tt))))
 
   limited_offers : (q : State) (o : Opens) → EachAnswer Limited unlimited (offers m q o)
   limited_offers at_statement o = limited_statements m.pvl o
   limited_offers at_semicolon o = limited_ended m.pvl o
-  limited_offers at_equals o = each_only Limited unlimited _ (λ p. tt, tt)
-  limited_offers at_pointer o = each_name Limited unlimited _ (λ n p. tt)
-  limited_offers (at_opener k) o = each_only Limited unlimited _ (λ p. tt, tt)
-  limited_offers (at_opened k) o = each_name Limited unlimited _ (λ n p. tt)
-  limited_offers (at_closer n) o = each_also Limited unlimited _ _ _ (λ p. tt) (limited_ended m.pvl o)
-  limited_offers (at_closed n) o = each_name Limited unlimited _ (λ n' p. limited (name_discrete n' n) (name n') p 7 _ _ _ name_differs)
-  limited_offers (at_scalar c a) o = limited_scalar c o _ _ (limited_range m.version_1 a o) (limited_else a o)
-  limited_offers (at_number c) o = each_also Limited unlimited _ _ _ (λ p. tt) (limited_follows c o)
+  limited_offers at_equals o = each_only Limited unlimited (equals ⇒ go (at_scalar alone any_value) o [] ∷ []) (λ p. tt, tt)
+  limited_offers at_pointer o = each_name Limited unlimited (λ n p. go at_equals o (pointer p ∷ [])) (λ n p. tt)
+  limited_offers (at_opener k) o = each_only Limited unlimited (equals ⇒ go (at_opened k) o [] ∷ []) (λ p. tt, tt)
+  limited_offers (at_opened k) o = each_name Limited unlimited (λ n p. go at_semicolon (inside k n o) (opened k p ∷ [])) (λ n p. tt)
+  limited_offers (at_closer n) o = each_also Limited unlimited equals (go (at_closed n) o []) (after_statement m.pvl o) (λ p. tt) (limited_ended m.pvl o)
+  limited_offers (at_closed n) o =
+      each_name Limited unlimited (λ n' p. limit (name_discrete n' n) 7 at_semicolon o []) (λ n' p. limited (name_discrete n' n) (name n') p 7 at_semicolon o [] name_differs)
+  limited_offers (at_scalar c a) o = limited_scalar c o (else_range m.version_1 a o) (else a o) (limited_range m.version_1 a o) (limited_else a o)
+  limited_offers (at_number c) o = each_also Limited unlimited less (go (at_unit c first) o []) (follows m c o) (λ p. tt) (limited_follows c o)
   limited_offers (at_member g) o = limited_follows (within g) o
-  limited_offers at_row o = each_only Limited unlimited _ (limited_rows m.version_1 o)
-  limited_offers at_next_row o = each_only Limited unlimited _ (λ p. tt, tt)
-  limited_offers (at_unit c op) o = each_name Limited unlimited _ (λ n p. tt)
-  limited_offers (at_power c op p) o = each_only Limited unlimited _ (limited_powers m.version_1 c op p o)
-  limited_offers (at_exponent c op p) o = each_whole Limited unlimited _ (λ w q. limited (dec_le w.size 99) (integer w) q 5 _ _ _ exponent_past)
-  limited_offers (at_factor c) o = each_only Limited unlimited _ (λ p. tt, (λ p. tt, (λ p. tt, tt)))
-  limited_offers at_end o = each_only Limited unlimited _ tt
+  limited_offers at_row o = each_only Limited unlimited (rows m.version_1 o) (limited_rows m.version_1 o)
+  limited_offers at_next_row o = each_only Limited unlimited (row_begins o ∷ []) (λ p. tt, tt)
+  limited_offers (at_unit c op) o = each_name Limited unlimited (λ n p. go (at_power c op p) o []) (λ n p. tt)
+  limited_offers (at_power c op p) o = each_only Limited unlimited (powers m.version_1 c op p o) (limited_powers m.version_1 c op p o)
+  limited_offers (at_exponent c op p) o =
+      each_whole Limited unlimited (λ w q. limit (dec_le w.size 99) 5 (at_factor c) o (a_unit op p w ∷ []))
+      (λ w q. limited (dec_le w.size 99) (integer w) q 5 (at_factor c) o (a_unit op p w ∷ []) exponent_past)
+  limited_offers (at_factor c) o = each_only Limited unlimited (factors c o []) (λ p. tt, (λ p. tt, (λ p. tt, tt)))
+  limited_offers at_end o = each_only Limited unlimited [] tt
 
   -- the code of a refusal is the one that the rules give
   code_of : {q : State} {o : Opens} {es : List Placed} {rs : List Row} (x : Placed) (c : ℕ) → Reach m strict at_statement outside es q o rs →

@@ -11,7 +11,7 @@ use Rattle.rules.specs.Table.{table}
 use Rattle.rules.specs.Reading.{longest, Outcome, accepted, refused, Said, says}
 use Rattle.rules.specs.Proper.{proper_rows, Ruled}
 use Rattle.rules.specs.Meaning.{meaning}
-use Rattle.rules.specs.SameElements.{OneElement, spelled, any_word, any_symbol, Through, Listed, through_end, and_then, SameElements, SamePlace, the_first, further, LastPlace, the_only, behind, AlikeRead, both_accepted, both_refused, both_at_the_end, AlikeSaid, both_stored, both_not_read, both_ended}
+use Rattle.rules.specs.SameElements.{OneElement, spelled, any_word, any_symbol, Through, Listed, to_the_end, through_end, and_then, SameElements, SamePlace, the_first, further, LastPlace, the_only, behind, AlikeRead, both_accepted, both_refused, both_at_the_end, AlikeSaid, both_stored, both_not_read, both_ended}
 use Rattle.rules.proofs.Elements.Next.{spells_some}
 use Rattle.rules.proofs.Reading.Outcomes.{accepted_same, accepted_refused}
 use Rattle.rules.proofs.Tables.Judge.{same_rows, verdict_once}
@@ -26,8 +26,10 @@ some_bytes (any_symbol t) = omega arith
 module _ {m : Mode} where
   -- an element starts within the bytes
   within_bytes : {i p p' : ℕ} {l ps ps' : List ℕ} {ws : List (List ℕ)} {t : Through} → Listed m i l ws ps t → SamePlace ps ps' p p' → (i ≤ p) × (p < i + length l)
+  within_bytes (to_the_end x) q = elim q [ ]
   within_bytes (through_end {g = g} {w = w} {r = r} x s k o) the_first =
       (omega arith, omega (arith, some_bytes s, length-append g (w ++ r), length-append w r))
+  within_bytes (through_end x s k o) (further q) = elim q [ ]
   within_bytes (and_then {g = g} {w = w} {l = r} x s k a) the_first =
       (omega arith, omega (arith, some_bytes s, length-append g (w ++ r), length-append w r))
   within_bytes (and_then {g = g} {w = w} {l = r} x s k a) (further q) =
@@ -35,16 +37,21 @@ module _ {m : Mode} where
       (omega (arith, h.0), omega (arith, h.1, length-append g (w ++ r), length-append w r))
 
   -- and no two start at one place
-  one_place : {i p p₁ p₂ : ℕ} {l ps ps' : List ℕ} {ws : List (List ℕ)} {t : Through} → Listed m i l ws ps t → SamePlace ps ps' p p₁ → SamePlace ps ps' p p₂ → p₁ ≡ p₂
-  one_place (through_end x s k o) the_first the_first = refl
-  one_place (and_then x s k a) the_first the_first = refl
-  one_place (and_then x s k a) the_first (further q) = absurd (omega (arith, some_bytes s, (within_bytes a q).0))
-  one_place (and_then x s k a) (further q) the_first = absurd (omega (arith, some_bytes s, (within_bytes a q).0))
-  one_place (and_then x s k a) (further q) (further q') = one_place a q q'
+  one_place : {i p p' p₁ p₂ : ℕ} {l ps ps' : List ℕ} {ws : List (List ℕ)} {t : Through} → Listed m i l ws ps t → SamePlace ps ps' p p₁ → SamePlace ps ps' p' p₂ → p ≡ p' → p₁ ≡ p₂
+  one_place (to_the_end x) q q' e = elim q [ ]
+  one_place (through_end x s k o) the_first the_first e = refl
+  one_place (through_end x s k o) the_first (further q) e = elim q [ ]
+  one_place (through_end x s k o) (further q) q' e = elim q [ ]
+  one_place (and_then x s k a) the_first the_first e = refl
+  one_place (and_then x s k a) the_first (further q) e = absurd (omega (arith, some_bytes s, (within_bytes a q).0))
+  one_place (and_then x s k a) (further q) the_first e = absurd (omega (arith, some_bytes s, (within_bytes a q).0))
+  one_place (and_then x s k a) (further q) (further q') e = one_place a q q' e
 
 -- the last places are one pair
 one_last : {p q p₁ p₂ : ℕ} {ps ps' : List ℕ} → LastPlace ps ps' p p₁ → LastPlace ps ps' q p₂ → p₁ ≡ p₂
 one_last the_only the_only = refl
+one_last the_only (behind s) = elim s [ ]
+one_last (behind s) the_only = elim s [ ]
 one_last (behind s) (behind s') = one_last s s'
 
 -- ---- outcomes
@@ -67,7 +74,7 @@ same_refusal {l} {c} {c'} {p} {p'} e f = subst₂ (λ (x y : ℕ). Once l (refus
 
 module _ {m : Mode} {l l' ps ps' : List ℕ} (a : SameElements m l l' ps ps') where
   also_here : {p p' p₁ p₂ : ℕ} → p ≡ p' → SamePlace ps ps' p p₁ → SamePlace ps ps' p' p₂ → p₁ ≡ p₂
-  also_here {p₂ = p₂} e s s' = one_place a.in_one s (subst (λ (n : ℕ). SamePlace ps ps' n p₂) (sym e) s')
+  also_here e s s' = one_place a.in_one s s' e
 
   no_end : {p p₁ : ℕ} → p ≡ length l → SamePlace ps ps' p p₁ → ⊥
   no_end e s = omega (arith, (within_bytes a.in_one s).1)

@@ -108,8 +108,8 @@ module _ (m : Mode) where
 
   cut_listed : {q q'' : State} {o o'' : Opens} {i j : ℕ} {l r : List ℕ} {es : List Placed} {rs : List Row} → Cut m i l es j r → Reach m strict q o es q'' o'' rs → is_end q ≡ false → is_end q'' ≡ true → Ends i l
   cut_listed none_more here x y = absurd (true≢false (sym y ∙ x))
-  cut_listed {q} {o = o} (next {e = e} g w gap s c) (by_step h t) x y =
-      through gap (spelled s) (λ k. end_off q o _ s k h) (λ k. cut_listed c t (leads m q o e _ h ∙ other_than_end s k) y)
+  cut_listed {q} {o = o} (next {e = e} g w gap s c) (by_step {q' = q₁} h t) x y =
+      through gap (spelled s) (λ k. end_off q o _ s k h) (λ k. cut_listed {q = q₁} c t (leads m q o e _ h ∙ other_than_end s k) y)
 
   -- every accepted label has a list of elements, through an END that is set off
   pub accepted_listed : {l : List ℕ} {rows : List Row} {i : ℕ} → Judged m l (accepted rows i) → (ws : List (List ℕ)) × (ps : List ℕ) × Listed m 0 l ws ps (first_end_word true)

@@ -55,7 +55,7 @@ module _ (m : Mode) where
       (ys : List Placed) (k : ℕ) (t : List ℕ) (qs : List Row) → Cut m i l ys k t → Reach m strict q o ys at_end outside qs → (es ≡ ys) × (j ≡ k)
   same_cut none_more here ys k t qs none_more u = (refl, refl)
   same_cut none_more here ys k t qs (next {i} {q = n} {e = e} g w x s c) (by_step h u) = absurd (refuses_goes (sym (end_refuses m outside (placed i g w e n)) ∙ h))
-  same_cut (next g w x s c) (by_step e t) ys k b qs d u = another x s e (λ ys' k' t' qs' d' u'. same_cut c t ys' k' t' qs' d' u') refl d u
+  same_cut (next g w x s c) (by_step {q' = q₁} e t) ys k b qs d u = another x s e (λ ys' k' t' qs' d' u'. same_cut {q = q₁} c t ys' k' t' qs' d' u') refl d u
 
   -- the elements, the rows and the place past END of a label that follows the rules
   pub one_way : {l r r' : List ℕ} {es es' : List Placed} {i i' : ℕ} {rows rows' : List Row} → Cut m 0 l es i r → Label m strict es rows → Cut m 0 l es' i' r' → Label m strict es' rows' →

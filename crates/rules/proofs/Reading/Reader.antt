@@ -134,10 +134,14 @@ module _ (m : Mode) where
   reach_label {q = q} t x = simp append-nil at (whole m strict (sound_reach m strict (rw (is_the_end q x) at t) r_end))
 
   pub judged : {l : List ℕ} {z : Outcome} → Ran at_statement outside 0 l z → Judged m l z
-  judged {l} (ran {rs = rs} c t (at_the_end x)) = rw append-nil (follows c (reach_label t x))
-  judged (ran c t (at_a_fault x g f)) = misspelled c (reach_early t x) g f
-  judged (ran c t (at_an_element x g s e)) = misplaced c (reach_early t x) g s (refused_at m _ t e)
-  judged {l} (ran {j = j} {r = r} c t (at_no_more x g)) = subst (λ (n : ℕ). Judged m l (refused 10 n)) (sym (zero-add (length l)) ∙ cut_length c) (ends_early c (reach_early t x) g)
+  judged {l} (ran c t s) = go c t s
+    where
+      go : {j : ℕ} {r : List ℕ} {es : List Placed} {q : State} {o : Opens} {rs : List Row} {z : Outcome} → Cut m 0 l es j r →
+          Reach m strict at_statement outside es q o rs → Stop m q o j r z → Judged m l (behind_rows rs z)
+      go {rs = rs} c t (at_the_end x) = rw append-nil (follows c (reach_label t x))
+      go c t (at_a_fault x g f) = misspelled c (reach_early t x) g f
+      go c t (at_an_element x g s e) = misplaced c (reach_early t x) g s (refused_at m _ t e)
+      go {j} {r} c t (at_no_more x g) = subst (λ (n : ℕ). Judged m l (refused 10 n)) (sym (zero-add (length l)) ∙ cut_length c) (ends_early c (reach_early t x) g)
 
   pub judge_sound : (l : List ℕ) → Judged m l (judge_label m l)
   judge_sound l = judged (gather (loop_sound (suc (length l)) at_statement outside 0 l (omega arith)))
@@ -167,8 +171,8 @@ module _ (m : Mode) where
   goes_along : {q q' : State} {o o' : Opens} {i j : ℕ} {l r : List ℕ} {es : List Placed} {rs : List Row} {z : Outcome} → Cut m i l es j r →
       Reach m strict q o es q' o' rs → Stop m q' o' j r z → Goes m q o i l (behind_rows rs z)
   goes_along {q} {o = o} {i = i} {l = l} {z = z} none_more here s = subst (Goes m q o i l) (sym (onto_nil z)) (now s)
-  goes_along {q} {o = o} {i = i} {z = z} (next {l = l} g w x s c) (by_step {x = y} {r = r} {rs = rs} e t) st =
-      subst (Goes m q o i (g ++ (w ++ l))) (onto_onto r rs z) (later (goes_not_end q o y e) x s e (goes_along c t st))
+  goes_along {q} {o = o} {i = i} {z = z} (next {l = l} g w x s c) (by_step {q' = q₁} {x = y} {r = r} {rs = rs} e t) st =
+      subst (Goes m q o i (g ++ (w ++ l))) (onto_onto r rs z) (later (goes_not_end q o y e) x s e (goes_along {q = q₁} c t st))
 
   not_ended : {es : List Placed} {q : State} {o : Opens} {rs : List Row} → Early m es → Reach m strict at_statement outside es q o rs → is_end q ≡ false
   not_ended {q = q} {rs = rs} E t = go (is_end q) refl

@@ -166,7 +166,7 @@ module _ (m : Mode) (l l' : List ℕ) where
   same k x x' f f' (through_end g s h e) (and_then g' s' h' t') = absurd (true≢false (sym h ∙ h'))
   same k x x' f f' (and_then g s h t) (through_end g' s' h' e') = absurd (true≢false (sym h' ∙ h))
   same k x x' f f' (and_then {g = g} {w = w} {l = r} gap s h t) (and_then {g = g'} {l = r'} gap' s' h' t') =
-      other k x x' f f' gap gap' h (both s s' h) (λ q₁ q₁' o₁ y u u'. same y u u' (onward g w r f) (onward g' w r' f') t t')
+      other k x x' f f' gap gap' h (both s s' h) (λ q₁ q₁' o₁ y u u'. same {q = q₁} y u u' (onward g w r f) (onward g' w r' f') t t')
 
   -- ---- the theorem: of the rules
 

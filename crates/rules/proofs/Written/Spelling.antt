@@ -350,7 +350,7 @@ set_off t k o (last n) rs e a =
     subst (λ (l : List Wording). sets_off the_rules (bytes_of (pieces heading o l) ++ tail_bytes) ≡ true) (sym (last_alone t k e a)) refl
 
 rows_spelled : {t : Await} {k : Kinds} (q : Prior) (o : Opens) (rs : List Wording) → Each Clean rs → Each Valued rs → Uppers o → RowRun t k rs t_end [] → AllSpelled (pieces q o rs) tail_bytes
-rows_spelled q o rs cs vs u row_here = tt
+rows_spelled q o rs Each.none Each.none u row_here = tt
 rows_spelled q o rs (Each.one {a = r} {s = rs'} c cs) (Each.one v vs) u (row_by {t = t} {o = k} e a) =
     let l = bytes_of (pieces (prior r) (after o r) rs') ++ tail_bytes in
     spelled_append (pieces_of q o r) (pieces (prior r) (after o r) rs') tail_bytes

@@ -8,7 +8,7 @@ use native.Mathlib.Omega.{arith}
 use borrow.Author.Tests.{eqb-true}
 use lib.Dec.{eqb}
 use lib.ListN.{length}
-use Rattle.rules.specs.Proper.{the_rules, Each, one as Also-one}
+use Rattle.rules.specs.Proper.{the_rules, Each, none as Also-none, one as Also-one}
 use Rattle.rules.specs.Written.{is_name, is_one, open_word, close_word, Prior, heading, member, factor, prior, new_line, after as opens-after, start}
 use Rattle.rules.specs.Data.{Span, Whole, one, Real, Moment, Name, Fixed, equals, star, slash, caret, less, greater, name, the, end, Placed, ◌on◌, Kind, Kind-discrete, object, group, opener, closer, Op, first, times, divided, Opens, outside, inside, depth, Row, attribute, pointer, opened, closed, an_integer, a_real, a_moment, a_text, a_symbol, a_unit, sequence, sequence_end, set, set_end, last}
 use Rattle.rules.specs.Grammar.{strict, unwritten, Label}
@@ -383,16 +383,16 @@ fit_lines t q o g_end = tt
 
 -- ---- all rows
 
-pub pieces_follow : {t : Await} {q : Prior} {ks : Kinds} (o : Opens) (rs : List Wording) → Agrees t q → Each Valued rs → RowRun t ks rs t_end [] → kinds o ≡ ks → (n : ℕ) →
+pub pieces_follow : {t : Await} {q : Prior} {ks : Kinds} (o : Opens) (rs : List Wording) → Each Valued rs → RowRun t ks rs t_end [] → Agrees t q → kinds o ≡ ks → (n : ℕ) →
     Rest the_rules strict (state t) o (place n (pieces q o rs)) (laid n q o rs)
-pieces_follow o rs g v row_here e n = r_end
-pieces_follow {t} {q} {ks} o rs g (Also-one {a = r} {s = rs'} v vs) (row_by {t' = t'} {o' = ks'} f a) e n =
+pieces_follow o rs Also-none row_here g e n = r_end
+pieces_follow {t} {q} {ks} o rs (Also-one {a = r} {s = rs'} v vs) (row_by {t' = t'} {o' = ks'} f a) g e n =
     subst (λ (l : List Placed). Rest the_rules strict (state t) o l (laid n q o (r ∷ rs'))) (sym (place_append n (pieces_of q o r) (pieces (prior r) (opens-after o r) rs')))
-    (fit.2 n _ _ (pieces_follow (opens-after o r) rs' fit.1 vs a fit.0 (skip n (pieces_of q o r))))
+    (fit.2 n _ _ (pieces_follow (opens-after o r) rs' vs a fit.1 fit.0 (skip n (pieces_of q o r))))
   where
     fit : FitTo (state t) q o r (to t' ks')
     fit = subst (FitTo (state t) q o r) (ap (λ (i : Kinds). sort_step t i (sort r)) e ∙ f) (look_fit (state t) q o r v (lines t (kinds o)) (fit_lines t q o g))
 
 -- the pieces of accepted rows are a label, and give the rows that were written
 pub written_label : (m : List Wording) → RowAccepts t_statement [] m → Each Valued m → Label the_rules strict (place 0 (written_pieces m)) (laid 0 start outside m)
-written_label m a v = whole the_rules strict (pieces_follow outside m (g_statement refl) v a refl 0)
+written_label m a v = whole the_rules strict (pieces_follow outside m v a (g_statement refl) refl 0)
