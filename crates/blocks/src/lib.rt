@@ -1,5 +1,7 @@
 // The open blocks in arrays, by value: only what opens or closes a block is handed them. The reader, the table's check and the writer
 // share them.
+#![tactic(auto)]
+
 ghost use Rattle.std.specs.Prelude.{◌≡◌, [], ◌∷◌, ◌+◌, ◌<◌, ◌≤◌};
 ghost use Rattle.blocks.specs.Stack.{block, kind_at, top_in, top_of, start_of, end_of, rest, blocks_of, no_blocks, push_on, pop_off};
 ghost use Rattle.rows.specs.Rows.{deepest};

@@ -1,4 +1,6 @@
 // The session book: a label is taken, and its session counted under the weekday of its START_TIME, or as undated.
+#![tactic(auto)]
+
 mod counts; // counts.rt: the eight counters
 mod dates; // dates.rt: the weekday of a date
 mod kinds; // kinds.rt: what the bytes of a table's rows tell

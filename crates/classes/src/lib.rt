@@ -1,4 +1,6 @@
 // Classes of bytes, as tests, and what else every crate asks for: the bytes of a span, names compared, the lesser of two numbers.
+#![tactic(auto)]
+
 mod spans; // spans.rt: the byte at a place, and the bytes between two
 mod names; // names.rt: names compared case folded
 mod numbers; // numbers.rt: the lesser of two numbers, and one less

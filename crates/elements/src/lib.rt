@@ -1,4 +1,6 @@
 // The elements of a label: blanks and comments passed, then the word, sign, text or symbol that stands there, or the fault.
+#![tactic(auto)]
+
 mod ends; // ends.rt: where runs end
 mod gaps; // gaps.rt: blanks and comments
 mod marks; // marks.rt: signs, and what opens a text or a symbol

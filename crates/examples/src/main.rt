@@ -2,6 +2,8 @@
 // reason why there is none.
 //
 // A line is a label in which `\n`, `\r`, `\t`, `\\` and `\xHH` stand for single bytes.
+#![tactic(auto)]
+
 mod escapes; // escapes.rt: a label on a line
 mod print; // print.rt: numbers and bytes
 mod wording; // wording.rt: rows in words

@@ -1,4 +1,6 @@
 // The form of a word: which bytes of it are what, as spans of the word, or that it has no form.
+#![tactic(auto)]
+
 mod ends; // ends.rt: where digits and letters end
 mod numbers; // numbers.rt: numbers
 mod times; // times.rt: dates and times

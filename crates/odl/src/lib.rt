@@ -1,5 +1,7 @@
 // The C face of the library: each function thin over a proved one, under the name that include/odl.h declares. Code, place and length
 // are set on every call, and the contract says of them and of the lent room what the rules say.
+#![tactic(auto)]
+
 ghost use Rattle.rules.specs.Modes.{base};
 ghost use Rattle.rules.specs.Reading.{Answered};
 ghost use Rattle.rules.specs.Writing.{Writes};

@@ -1,4 +1,6 @@
 // The written label: what each row writes after the row before it.
+#![tactic(auto)]
+
 mod lines; // lines.rt: what stands between rows
 mod values; // values.rt: the rows of values
 mod headings; // headings.rt: the rows that begin a line: names, blocks and END

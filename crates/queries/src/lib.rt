@@ -1,4 +1,6 @@
 // What is asked of a table: the text of a row, the name of a row, and an attribute by its name.
+#![tactic(auto)]
+
 mod places; // places.rt: the row at an offset, and where a block ends
 mod texts; // texts.rt: the text of a row
 mod names; // names.rt: the name of a row

@@ -1,4 +1,6 @@
 // Reads a label from standard input and writes its canonical form, or the line `REFUSED code place`.
+#![tactic(auto)]
+
 mod anew; // anew.rt: a label written anew
 
 use anew::relabelled;

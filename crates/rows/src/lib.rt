@@ -1,4 +1,6 @@
 // The rows of the table: what a row holds, its bytes, and the row at a place of any table.
+#![tactic(auto)]
+
 mod numbers; // numbers.rt: numbers into bytes
 mod shapes; // shapes.rt: a row of each shape into bytes
 mod fields; // fields.rt: numbers out of bytes

@@ -1,1 +1,2 @@
 // Nothing.
+#![tactic(auto)]

@@ -1,4 +1,6 @@
 // The reader: a label's bytes into the table, or the first fault.
+#![tactic(auto)]
+
 mod cursor; // cursor.rt: where a reading stands
 mod passes; // passes.rt: one pass over the label
 mod stack; // stack.rt: the open blocks

@@ -1,4 +1,6 @@
 // The step over one element: the state that it leads to from a state, and what it gives.
+#![tactic(auto)]
+
 mod lines; // lines.rt: names, blocks and END
 mod moves; // moves.rt: ways to go on from a state
 mod signs; // signs.rt: what elements are told apart by

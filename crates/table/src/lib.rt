@@ -1,4 +1,6 @@
 // The check of a table: its rows one after another, of each its value, its span and its order.
+#![tactic(auto)]
+
 mod values; // values.rt: the value of a row
 mod spans; // spans.rt: the span of a row
 mod order; // order.rt: the order of rows

@@ -1,4 +1,6 @@
 // The value of a word: what its form stands for, or that it is past a limit or of no form.
+#![tactic(auto)]
+
 mod names; // names.rt: identifiers, reserved or not
 mod numbers; // numbers.rt: digits, integers and based integers
 mod reals; // reals.rt: reals

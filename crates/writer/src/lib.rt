@@ -1,4 +1,6 @@
 // The writer: label bytes and a table into a canonical label, or why not.
+#![tactic(auto)]
+
 mod passes; // passes.rt: one pass over the table's rows
 
 ghost use Rattle.std.specs.Prelude.{◌≡◌, ◌≤◌, length};
