@@ -14,20 +14,20 @@ use classes::{byte_at, is_alnum, is_letter};
 use numbers::number_at;
 
 // The bytes of the word from a place up to another; 0 up to 0 for what is not written.
-#[derive(Drop)]
+#[derive(Clone, Copy)]
 pub struct Span {
     pub from: usize,
     pub upto: usize,
 }
 
 // The day of the year; the month and the day. The year is the first four bytes.
-#[derive(Drop)]
+#[derive(Clone, Copy)]
 pub enum Date {
     InYear(Span),
     InMonth(Span, Span),
 }
 
-#[derive(Drop)]
+#[derive(Clone, Copy)]
 pub struct Clock {
     pub hour: Span,
     pub minute: Span,
@@ -36,21 +36,21 @@ pub struct Clock {
 }
 
 // What ends a time: nothing, Z, or how far it is from Greenwich: whether west of it, hours, minutes.
-#[derive(Drop)]
+#[derive(Clone, Copy)]
 pub enum Zone {
     NoZone,
     Utc,
     Offset(bool, Span, Span),
 }
 
-#[derive(Drop)]
+#[derive(Clone, Copy)]
 pub enum Stamp {
     Undated,
     Dated(Date),
 }
 
 // What a word is. A bool says that there is a minus.
-#[derive(Drop)]
+#[derive(Clone, Copy)]
 pub enum Form {
     NoForm,
     Name,

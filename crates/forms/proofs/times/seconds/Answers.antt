@@ -1,0 +1,23 @@
+-- A time from the end of its minutes on, answer by answer.
+use borrow.Author.Rules.{rules}
+use Rattle.forms.specs.Laid.{minutes_to, second_to}
+use Rattle.forms.proofs.Places.{byte_is, byte_not}
+use Rattle.forms.proofs.Stamps.{sec_none, sec_few, sec_some}
+use Rattle.forms.proofs.times.seconds.Goals as goal
+
+ruleset ways = (minutes_to, second_to, byte_is, byte_not, sec_none, sec_few, sec_some, rules)
+
+pub returns-then-byte_at-ne58 : goal.returns-then-byte_at-ne58
+returns-then-byte_at-ne58 c = search ways
+
+pub returns-then-not-counts : goal.returns-then-not-counts
+returns-then-not-counts c = search ways
+
+pub returns : goal.returns
+returns c = search ways
+
+pub zone_at-requires-clause-clock_to : goal.zone_at-requires-clause-clock_to
+zone_at-requires-clause-clock_to c = search ways
+
+pub decimals-requires-clause-second_to : goal.decimals-requires-clause-second_to
+decimals-requires-clause-second_to c = search ways
