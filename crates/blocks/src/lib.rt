@@ -9,7 +9,7 @@ ghost use Rattle.rows.specs.Rows.{deepest};
 use rows::{DEEPEST, Kind, OPEN_GROUP, open_kind};
 
 // The open blocks: where the name of each starts and ends, and its kind.
-#[derive(Drop)]
+#[derive(Clone, Copy)]
 pub struct Blocks {
     pub starts: [u16; DEEPEST],
     pub ends: [u16; DEEPEST],
@@ -18,7 +18,7 @@ pub struct Blocks {
 }
 
 // The innermost open block, if any.
-#[derive(Drop)]
+#[derive(Clone, Copy)]
 pub enum Top {
     Outside,
     Object,

@@ -10,7 +10,7 @@ use crate::dates::weekday;
 use classes::{alike, byte_at, part};
 
 // What is done with a row where an attribute is sought that stands in no block.
-#[derive(Drop)]
+#[derive(Clone, Copy)]
 pub enum Way {
     Named,
     Plain,

@@ -18,13 +18,13 @@ use kinds::{Way, counter_behind, is_start_time, row_length, way_of};
 use statements::{Reading, code_of, length_of, place_of, read};
 
 // Sessions on each weekday from Monday on, and undated ones last.
-#[derive(Drop)]
+#[derive(Clone, Copy)]
 pub struct Book {
     pub counts: [u32; 8],
 }
 
 // What a taking answers, and the book after it.
-#[derive(Drop)]
+#[derive(Clone, Copy)]
 pub struct Taken {
     pub book: Book,
     pub code: u8,
@@ -44,7 +44,7 @@ const BOOK_FULL: u8 = 16;
 const UNDATED: usize = 8;
 
 // Where the row of START_TIME starts.
-#[derive(Drop)]
+#[derive(Clone, Copy)]
 enum Start {
     At(usize),
     Nowhere,

@@ -6,7 +6,7 @@ use crate::ends::{break_code, comment_end, line_end};
 use classes::{byte_at, is_blank};
 
 // A place, or a place with the code of the fault there.
-#[derive(Drop)]
+#[derive(Clone, Copy)]
 pub enum Skip {
     At(usize),
     Broken(usize, u8),

@@ -20,7 +20,7 @@ use word::word_at;
 use words::{Fixed, Moment, Real};
 
 // An element with its start and its end; those of a text and a symbol leave the quotes out. Of END, whether it is set off.
-#[derive(Drop)]
+#[derive(Clone, Copy)]
 pub enum Element {
     Name(usize, usize),
     The(Fixed, usize, usize),
@@ -34,7 +34,7 @@ pub enum Element {
 }
 
 // What comes next: an element and the place just past it, a fault with its code and place, or the input's end and its place.
-#[derive(Drop)]
+#[derive(Clone, Copy)]
 pub enum Found {
     Next(Element, usize),
     Fault(u8, usize),

@@ -7,7 +7,7 @@ use crate::{Element, Found};
 use classes::byte_at;
 use words::Fixed;
 
-#[derive(Drop)]
+#[derive(Clone, Copy)]
 pub enum Mark {
     One(Fixed),
     Asterisk,

@@ -13,7 +13,7 @@ use output::put_byte;
 use words::Moment;
 
 // Decimals: how many, and the number that they are the digits of.
-#[derive(Drop)]
+#[derive(Clone, Copy)]
 pub struct Fraction {
     pub size: usize,
     pub value: u64,

@@ -11,7 +11,7 @@ use crate::bytes::put_byte;
 use classes::{is_blank, is_line_end, least};
 
 // What a byte of a text leaves: a byte or none; whether the run that it stands in has been dealt with, or is known to hold no line end.
-#[derive(Drop)]
+#[derive(Clone, Copy)]
 pub struct Turn {
     pub put: bool,
     pub byte: u8,

@@ -21,7 +21,7 @@ use values::{
 };
 
 // What the row before leaves: nothing yet, in the label or in its bracket; a line's heading; a scalar, or a bracket that closes; a unit.
-#[derive(Drop)]
+#[derive(Clone, Copy)]
 pub enum Prior {
     Start,
     Heading,

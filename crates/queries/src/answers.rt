@@ -5,7 +5,7 @@ ghost use Rattle.queries.specs.Answers.{text_said, found_said};
 use classes::LONGEST_LABEL;
 
 // The text's length where it was given, and where the room is too short for it; the place where the table stops being proper.
-#[derive(Drop)]
+#[derive(Clone, Copy)]
 pub enum TextAnswer {
     Given(usize),
     TooLong,
@@ -15,7 +15,7 @@ pub enum TextAnswer {
 }
 
 // The offset of the attribute's row; the place where the table stops being proper.
-#[derive(Drop)]
+#[derive(Clone, Copy)]
 pub enum Finding {
     At(usize),
     TooLong,

@@ -10,7 +10,7 @@ use rows::{Got, Row};
 use table::{Checked, check};
 
 // A stretch of the label.
-#[derive(Drop)]
+#[derive(Clone, Copy)]
 pub struct Stretch {
     pub start: usize,
     pub end: usize,

@@ -8,7 +8,7 @@ ghost use Rattle.queries.specs.Walking.{RowFrom, way_of, PastBlock};
 use rows::{Got, Row, row_at};
 
 // What the lookup does with a row.
-#[derive(Drop)]
+#[derive(Clone, Copy)]
 pub enum Way {
     Named(usize, usize),
     Plain,

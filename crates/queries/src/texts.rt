@@ -16,7 +16,7 @@ use rows::{Got, Row};
 use table::{Checked, check};
 
 // The span of a row's text, where it is a text.
-#[derive(Drop)]
+#[derive(Clone, Copy)]
 pub enum Shown {
     Span(usize, usize),
     Nothing,

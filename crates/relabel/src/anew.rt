@@ -7,7 +7,7 @@ use statements::read;
 use writer::write;
 
 // Code, place and length: those of the refused reading, or of the writing.
-#[derive(Drop)]
+#[derive(Clone, Copy)]
 pub struct Answer {
     pub code: u8,
     pub place: usize,

@@ -17,7 +17,7 @@ use shapes::{encode_integer, encode_last, encode_moment, encode_real, encode_spa
 use words::{Moment, Real};
 
 // The two kinds of block.
-#[derive(Drop)]
+#[derive(Clone, Copy)]
 pub enum Kind {
     Object,
     Group,
@@ -27,7 +27,7 @@ pub enum Kind {
 pub const DEEPEST: usize = 80;
 
 // How a unit stands in its expression.
-#[derive(Drop)]
+#[derive(Clone, Copy)]
 pub enum Op {
     First,
     Times,
@@ -35,7 +35,7 @@ pub enum Op {
 }
 
 // What a scalar is a member of.
-#[derive(Drop)]
+#[derive(Clone, Copy)]
 pub enum Nest {
     Alone,
     Sequence,
@@ -44,7 +44,7 @@ pub enum Nest {
 }
 
 // A row. Spans are start and end.
-#[derive(Drop)]
+#[derive(Clone, Copy)]
 pub enum Row {
     Attribute(usize, usize),
     Pointer(usize, usize),
@@ -64,7 +64,7 @@ pub enum Row {
 }
 
 // The row at a place of a table and the place after it.
-#[derive(Drop)]
+#[derive(Clone, Copy)]
 pub enum Got {
     Nothing,
     Found(Row, usize),

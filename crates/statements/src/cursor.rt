@@ -7,7 +7,7 @@ use blocks::{Blocks, no_blocks};
 use steps::State;
 
 // The next element is looked for at `at`, and the table so far has n bytes.
-#[derive(Drop)]
+#[derive(Clone, Copy)]
 pub struct Cursor {
     pub state: State,
     pub blocks: Blocks,

@@ -16,7 +16,7 @@ use output::put_bytes;
 use passes::pass;
 
 // What a reading answers: each refusal with its place, an acceptance with the place past END and the table's length.
-#[derive(Drop)]
+#[derive(Clone, Copy)]
 pub enum Reading {
     Accepted(usize, usize),
     TooLong,

@@ -15,7 +15,7 @@ use rows::{LONGEST_ROW, Row, encode, encoded_len};
 use steps::{END_NOT_SET_OFF, Gives, MISPLACED, OTHER_NAME, Stepped, TOO_DEEP, start_of, step};
 
 // The answer of a pass; and where the room was full, the last place where the table so far fitted it, if it came to be longer.
-#[derive(Drop)]
+#[derive(Clone, Copy)]
 pub struct Run {
     pub reading: Reading,
     pub full: Cursor,

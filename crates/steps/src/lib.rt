@@ -25,7 +25,7 @@ use values::{
 };
 
 // What is awaited.
-#[derive(Drop)]
+#[derive(Clone, Copy)]
 pub enum Awaited {
     Statement,
     Equals,
@@ -53,7 +53,7 @@ pub enum Awaited {
 
 // The kind is the block's that is being opened; op, from and upto are the unit's, or the closing name's, in hand; top and full
 // are all that a step must know of the open blocks, so that it need not hold their arrays. Outside all blocks full counts for nothing.
-#[derive(Drop)]
+#[derive(Clone, Copy)]
 pub struct State {
     pub awaited: Awaited,
     pub nest: Nest,
@@ -67,7 +67,7 @@ pub struct State {
 
 // What an element gives: nothing, the row beside it, or a stop with the code beside it. They stand beside it because an enum with a row
 // inside goes through memory at each element.
-#[derive(Drop)]
+#[derive(Clone, Copy)]
 pub enum Gives {
     Nothing,
     One,
@@ -76,7 +76,7 @@ pub enum Gives {
 
 // A row that opens or closes a block asks the loop to do so. Where no row is given, row is one filler; where there is no stop, code is 0.
 // A stop is at the element's own place, `start_of`.
-#[derive(Drop)]
+#[derive(Clone, Copy)]
 pub struct Stepped {
     pub state: State,
     pub gives: Gives,

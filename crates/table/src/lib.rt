@@ -18,7 +18,7 @@ use spans::good_span;
 use values::good_value;
 
 // What is awaited. After a value that stands alone a statement is awaited; Nothing where a row has come that cannot.
-#[derive(Drop)]
+#[derive(Clone, Copy)]
 pub enum Await {
     Nothing,
     After(Nest),
@@ -33,7 +33,7 @@ pub enum Await {
 }
 
 // The verdict on a table: proper, or the place where it stops being so.
-#[derive(Drop)]
+#[derive(Clone, Copy)]
 pub enum Checked {
     Proper,
     Improper(usize),

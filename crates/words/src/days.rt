@@ -8,7 +8,7 @@ use crate::numbers::number_of;
 use forms::{Date, Span};
 
 // A day; all 0 where there is no date.
-#[derive(Drop)]
+#[derive(Clone, Copy)]
 pub struct Day {
     pub year: u16,
     pub month: u8,
@@ -16,7 +16,7 @@ pub struct Day {
 }
 
 // A day that the calendar has, or that it has none.
-#[derive(Drop)]
+#[derive(Clone, Copy)]
 pub enum InCalendar {
     Missing,
     On(Day),

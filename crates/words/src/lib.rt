@@ -25,7 +25,7 @@ use reals::decimal;
 use times::{dated, stamped};
 
 // The words and signs that are spelled in one way: the reserved words but END, and the signs.
-#[derive(Drop)]
+#[derive(Clone, Copy)]
 pub enum Fixed {
     Object,
     EndObject,
@@ -47,7 +47,7 @@ pub enum Fixed {
 }
 
 // A real: its number with its sign, and its power of ten with its sign.
-#[derive(Drop)]
+#[derive(Clone, Copy)]
 pub struct Real {
     pub minus: bool,
     pub number: u64,
@@ -64,7 +64,7 @@ pub const SIGNED_ZONE: u8 = 2;
 
 // A date, a time or both; an absent part is all 0. The offset is in minutes. The mark stands behind the parts because labels are read faster so
 // than with it last.
-#[derive(Drop)]
+#[derive(Clone, Copy)]
 pub struct Moment {
     pub parts: u8,
     pub mark: u8,
@@ -80,7 +80,7 @@ pub struct Moment {
 }
 
 // What a word is.
-#[derive(Drop)]
+#[derive(Clone, Copy)]
 pub enum Value {
     Name,
     End,

@@ -15,7 +15,7 @@ use passes::pass;
 use table::{Checked, check};
 
 // What a writing answers: the written length; the place where the table stops being proper; the length that the room lacks.
-#[derive(Drop)]
+#[derive(Clone, Copy)]
 pub enum Writing {
     Written(usize),
     TooLong,

@@ -1,0 +1,21 @@
+-- `texts::run_breaks` meets its contract.
+use borrow.Author.Rules.{rules}
+use Rattle.output.proofs.Reassembly.{breaks_start, breaks_turn, breaks_yes, breaks_no, breaks_past}
+use Rattle.output.proofs.texts.run_breaks.Goals as goal
+
+ruleset ways = (breaks_start, breaks_turn, breaks_yes, breaks_no, breaks_past, rules)
+
+pub loop-i-init : goal.loop-i-init
+loop-i-init c = search ways
+
+pub returns-then-is_line_end : goal.returns-then-is_line_end
+returns-then-is_line_end c = search ways
+
+pub returns-then-is_shown : goal.returns-then-is_shown
+returns-then-is_shown c = search ways
+
+pub loop-i-preserved : goal.loop-i-preserved
+loop-i-preserved c = search ways
+
+pub returns : goal.returns
+returns c = search ways
