@@ -1,0 +1,11 @@
+-- `numbers::digit_count` meets its contract.
+use Rattle.numerals.proofs.Digits.{Counting}
+use borrow.Author.Rules.{rules}
+use Rattle.numerals.proofs.Digits.{count_start, count_turn, count_less, count_end}
+use Rattle.numerals.proofs.numbers.digit_count.Given as goal
+
+abbrev pub invariant-loop-v : goal.invariant-loop-v
+invariant-loop-v l = Counting l.n l.v l.k
+
+abbrev pub decreases-loop-v : goal.decreases-loop-v
+decreases-loop-v l = l.v

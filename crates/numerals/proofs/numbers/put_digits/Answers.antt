@@ -1,0 +1,8 @@
+-- `numbers::put_digits` meets its contract.
+use borrow.Author.Rules.{rules}
+use native.Mathlib.Omega.{arith}
+use Rattle.numerals.proofs.RealForms.{counted}
+use Rattle.numerals.proofs.numbers.put_digits.Goals as goal
+
+pub returns : goal.returns
+returns c = (counted c.digit_count-k.ensures c.put_wide.ensures.0, omega arith)

@@ -1,0 +1,8 @@
+-- `numbers::put_full` meets its contract.
+use borrow.Author.Rules.{rules}
+use Rattle.output.proofs.Laws.{onward_three}
+use native.Mathlib.Omega.{arith}
+use Rattle.numerals.proofs.numbers.put_full.Goals as goal
+
+pub returns : goal.returns
+returns c = (onward_three c.put_digits-a.ensures.0 c.least-k.ensures c.put_wide.ensures.0 c.least-j.ensures c.put_bytes-c.ensures, omega arith)

@@ -1,0 +1,12 @@
+-- `numbers::put_wide` meets its contract.
+use Prim.Native.Nat.{◌-◌, ◌/◌, ◌^◌}
+use Rattle.numerals.proofs.Digits.{Wide, wide_end}
+use borrow.Author.Rules.{rules}
+use Rattle.numerals.proofs.Digits.{wide_start, wide_turn}
+use Rattle.numerals.proofs.numbers.put_wide.Given as goal
+
+abbrev pub invariant-loop-i : goal.invariant-loop-i
+invariant-loop-i l = Wide l.e (l.n / 10 ^ (l.k - l.e)) l.initial.out l.out l.v l.i
+
+abbrev pub decreases-loop-i : goal.decreases-loop-i
+decreases-loop-i l = l.i

@@ -1,0 +1,9 @@
+-- `times::put_time` meets its contract.
+use borrow.Author.Rules.{rules}
+use Rattle.output.proofs.Laws.{onward_three}
+use native.Mathlib.Omega.{arith}
+use Rattle.numerals.proofs.Moments.{in_time}
+use Rattle.numerals.proofs.times.put_time.Goals as goal
+
+pub returns : goal.returns
+returns c = (in_time c.args.x (onward_three c.put_clock-a.ensures.0 c.least-k.ensures c.put_fraction.ensures.0 c.least-j.ensures c.put_zone-c.ensures.0), omega arith)

@@ -1,0 +1,8 @@
+-- `times::put_two` meets its contract.
+use borrow.Author.Rules.{rules}
+use Rattle.output.proofs.Laws.{onward}
+use native.Mathlib.Omega.{arith}
+use Rattle.numerals.proofs.times.put_two.Goals as goal
+
+pub returns : goal.returns
+returns c = ((onward c.put_byte-a.ensures c.least-k.ensures c.put_wide-m.ensures.0), omega arith)

@@ -1,0 +1,11 @@
+-- `times::trim` meets its contract.
+use Rattle.numerals.proofs.Digits.{Trimming}
+use borrow.Author.Rules.{rules}
+use Rattle.numerals.proofs.Digits.{trim_start, trim_turn, trim_end, trim_none}
+use Rattle.numerals.proofs.times.trim.Given as goal
+
+abbrev pub invariant-loop-k : goal.invariant-loop-k
+invariant-loop-k l = Trimming l.n l.v l.k
+
+abbrev pub decreases-loop-k : goal.decreases-loop-k
+decreases-loop-k l = l.k

@@ -1,0 +1,14 @@
+-- `numbers::twos8` meets its contract.
+use native.Mathlib.Omega.{arith}
+use Rattle.rows.proofs.Writing.{byte_minus, byte}
+use borrow.Author.Rules.{rules}
+use Rattle.rows.proofs.numbers.twos8.Goals as goal
+
+pub returns-then-v-ge256 : goal.returns-then-v-ge256
+returns-then-v-ge256 c = byte_minus _ _ c.if-minus.true (omega arith)
+
+pub returns-then-minus : goal.returns-then-minus
+returns-then-minus c = byte_minus _ _ c.if-minus.true (omega arith)
+
+pub returns : goal.returns
+returns c = byte _ _ c.if-minus.false (omega arith)

@@ -1,0 +1,13 @@
+-- `row_at` meets its contract.
+use Rattle.rows.proofs.Decoding.{rowed}
+use borrow.Author.Rules.{rules}
+use Rattle.rows.proofs.row_at.Goals as goal
+
+pub returns-then-n-at : goal.returns-then-n-at
+returns-then-n-at c = search rowed
+
+pub returns-then-n-at-2 : goal.returns-then-n-at-2
+returns-then-n-at-2 c = search rowed
+
+pub returns : goal.returns
+returns c = search rowed

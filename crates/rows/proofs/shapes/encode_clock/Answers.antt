@@ -1,0 +1,7 @@
+-- `shapes::encode_clock` meets its contract.
+use Rattle.rows.proofs.Writing.{onward}
+use borrow.Author.Rules.{rules}
+use Rattle.rows.proofs.shapes.encode_clock.Goals as goal
+
+pub returns : goal.returns
+returns c = onward (onward (onward c.encode_byte-n.ensures c.encode_byte.ensures) c.encode_byte-2.ensures) c.encode_four-j.ensures

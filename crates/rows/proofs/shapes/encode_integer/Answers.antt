@@ -1,0 +1,7 @@
+-- `shapes::encode_integer` meets its contract.
+use Rattle.rows.proofs.Writing.{onward}
+use borrow.Author.Rules.{rules}
+use Rattle.rows.proofs.shapes.encode_integer.Goals as goal
+
+pub returns : goal.returns
+returns c = onward c.encode_byte-n.ensures c.encode_eight-m.ensures

@@ -1,0 +1,7 @@
+-- `shapes::encode_real` meets its contract.
+use Rattle.rows.proofs.Writing.{onward}
+use borrow.Author.Rules.{rules}
+use Rattle.rows.proofs.shapes.encode_real.Goals as goal
+
+pub returns : goal.returns
+returns c = onward (onward c.encode_byte-n.ensures c.encode_eight.ensures) c.encode_two-k.ensures
