@@ -1,0 +1,7 @@
+-- `headings::put_naming` meets its contract.
+use Rattle.output.proofs.Laws.{onward}
+use native.Mathlib.Omega.{arith}
+use Rattle.printing.proofs.headings.put_naming.Goals as goal
+
+pub returns : goal.returns
+returns c = ((onward c.put_bytes-a.ensures c.least-k.ensures c.put_folded-m.ensures.0), omega arith)

@@ -1,0 +1,7 @@
+-- `values::put_unit` meets its contract.
+use Rattle.output.proofs.Laws.{onward_three}
+use native.Mathlib.Omega.{arith}
+use Rattle.printing.proofs.values.put_unit.Goals as goal
+
+pub returns : goal.returns
+returns c = ((onward_three c.put_op-a.ensures.0 c.least-k.ensures c.put_folded.ensures.0 c.least-j.ensures c.put_exponent-c.ensures.0), omega arith)

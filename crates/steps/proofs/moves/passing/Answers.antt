@@ -1,0 +1,8 @@
+-- `moves::passing` meets its contract.
+use Rattle.steps.specs.Steps.{giving}
+use borrow.Author.Rules.{rules}
+use Rattle.steps.proofs.moves.passing.Goals as goal
+
+pub returns : goal.returns
+unfolding giving
+returns c = c.rowless.ensures

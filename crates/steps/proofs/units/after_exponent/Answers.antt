@@ -1,0 +1,16 @@
+-- `units::after_exponent` meets its contract.
+use Rattle.steps.proofs.Ways.{ways}
+use borrow.Author.Rules.{rules}
+use Rattle.steps.proofs.units.after_exponent.Goals as goal
+
+pub returns-then-c-eq42 : goal.returns-then-c-eq42
+returns-then-c-eq42 c = search ways
+
+pub returns-then-c-eq47 : goal.returns-then-c-eq47
+returns-then-c-eq47 c = search ways
+
+pub returns-then-c-eq62 : goal.returns-then-c-eq62
+returns-then-c-eq62 c = search ways
+
+pub returns : goal.returns
+returns c = search ways

@@ -1,0 +1,13 @@
+-- `values::in_set` meets its contract.
+use Rattle.steps.proofs.Ways.{ways}
+use borrow.Author.Rules.{rules}
+use Rattle.steps.proofs.values.in_set.Goals as goal
+
+pub returns-then-c-eq44 : goal.returns-then-c-eq44
+returns-then-c-eq44 c = search ways
+
+pub returns-then-c-eq125 : goal.returns-then-c-eq125
+returns-then-c-eq125 c = search ways
+
+pub returns : goal.returns
+returns c = search ways
