@@ -167,12 +167,14 @@ module _ (label lent name : List ℕ) (row : ℕ) (g : Got) (s : RowFrom lent ro
     where
       go : (qs : List rule.Row) → First Nothing qs → says 15 0 0 ≡ line_said label name row qs
       go [] no_first = refl
+      go (_ ∷ _) x = elim x [ ]
 
   module _ (r : Row) (next : ℕ) (f : g ≡ Found r next) (t : Bool) (e : t ≡ is_line (row_of r)) where
     pub finds_line : (z : Finding) → t ≡ true → SeeksFrom label lent name row z → FindsFrom label lent name row z
     finds_line z h k = record { is = λ rs l. go rs l r next (sym e ∙ h) (from_of row rs) refl (subst (λ (x : Got). First x (from_of row rs)) f (s.is rs l)) }
       where
         go : (rs : List rule.Row) → TableFrom lent 0 rs → (r : Row) (next : ℕ) → is_line (row_of r) ≡ true → (qs : List rule.Row) → from_of row rs ≡ qs → First (Found r next) qs → found_said z ≡ line_said label name row qs
+        go rs l r next q [] i x = elim x [ ]
         go rs l r next q (x ∷ qs) i the_first =
             let m : 0 + row ≡ row = omega arith in
             ap found_said (k.is (row_of r ∷ qs) (subst (λ (i : ℕ). TableFrom lent i (row_of r ∷ qs)) m (left_from lent 0 l (from_there row rs i)))) ∙ found_said_lem (seeks label name 0 row (row_of r ∷ qs)) ∙ rw q
@@ -181,6 +183,7 @@ module _ (label lent name : List ℕ) (row : ℕ) (g : Got) (s : RowFrom lent ro
     finds_none h = record { is = λ rs l. go r next (sym e ∙ h) (from_of row rs) (subst (λ (x : Got). First x (from_of row rs)) f (s.is rs l)) }
       where
         go : (r : Row) (next : ℕ) → is_line (row_of r) ≡ false → (qs : List rule.Row) → First (Found r next) qs → says 15 0 0 ≡ line_said label name row qs
+        go r next q [] x = elim x [ ]
         go r next q (x ∷ qs) the_first = rw q
 
 module _ (label lent name : List ℕ) (row : ℕ) where

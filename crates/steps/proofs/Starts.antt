@@ -3,11 +3,12 @@ use Prim.Native.Nat.{ℕ, suc, ◌<◌}
 use mathlib.Core.Path.{◌≡◌, refl, sym, ap, ◌∙◌}
 use mathlib.Core.Bool.{Bool, true, false, false≢true}
 use mathlib.Core.List.{List, [], ◌∷◌}
+use Rattle.rules.specs.Modes.{base}
 use Rattle.rules.specs.Grammar.{strict}
 use Rattle.rules.proofs.Machine.Statements as machine
 use Rattle.rules.specs.Data as rule
 use Rattle.rules.specs.Data.{depth}
-use Rattle.rules.proofs.Machine.Statements.{judge, dispatch, a_statement, Entry, ◌⇒◌, Next, never}
+use Rattle.rules.proofs.Machine.Statements.{judge, dispatch, offers, a_statement, Entry, ◌⇒◌, Next, never, Offer}
 use borrow.Author.Rules.{rules}
 use types.Run.{OneOf, miss}
 use native.Mathlib.Decide.{dec_lt}
@@ -27,12 +28,13 @@ use Rattle.elements.specs.declared.Element.TheVariants.{Name, The, End, Integer,
 use Rattle.steps.specs.declared.Awaited.TheVariants as await
 use Rattle.rows.specs.declared.Row.TheVariants as rows
 use Rattle.rows.specs.declared.Kind as kind
+use Rattle.words.specs.declared.Fixed as fixed
 use Rattle.rows.specs.declared.Kind.TheVariants as kinds
 use Rattle.blocks.specs.declared.Top as top
 use Rattle.blocks.specs.declared.Top.TheVariants as tops
 use Rattle.steps.specs.declared.State.{State}
 use Rattle.steps.specs.declared.Stepped.{Stepped}
-use Rattle.steps.proofs.Offers.{pass, keys, Avoids}
+use Rattle.steps.proofs.Offers.{pass, keys, Avoids, sorts_but_beginners}
 
 -- the cases of the open blocks
 by_blocks : (P : List Block → Type 0) → P [] → ((a b : ℕ) (bs : List Block) → P (block kinds.Object a b ∷ bs)) → ((a b : ℕ) (bs : List Block) → P (block kinds.Group a b ∷ bs)) → (bs : List Block) → P bs
@@ -100,6 +102,10 @@ module _ {label : List ℕ} {t : State} {e : Element} {r : Stepped} where
 
 -- ---- words that do not begin a statement there
 
+-- what is taken there
+abbrev taken : List ℕ → List Block → Offer
+taken label bs = offers base machine.at_semicolon (opens_of label bs)
+
 skips : (f : rule.Name → rule.Span → Next) (g : Bool → rule.Span → Next) (l : List Entry) (label : List ℕ) (e : Element) → Word e → Avoids (sign_of e) (keys l) → dispatch (a_statement f g l) (placed_of label e) ≡ never
 skips f g [] label e a_word h = refl
 skips f g (j ⇒ n ∷ l) label e w h = pass (a_statement f g l) label e j n h.0 ∙ skips f g l label e w h.1
@@ -107,20 +113,20 @@ skips f g (j ⇒ n ∷ l) label e w h = pass (a_statement f g l) label e j n h.0
 module _ {label : List ℕ} {t : State} {e : Element} {r : Stepped} where
   pub no_word_outside : {c : ℕ} → c ≡ sign_of e → (c ≡ 94 → ⊥) → (c ≡ 1 → ⊥) → (c ≡ 3 → ⊥) → Word e → t.top ≡ tops.Outside → r ≡ giving t (stop 6) → Does label t machine.at_semicolon e r
   no_word_outside s i j k w h g =
-      refused g (by_blocks _ (λ v. skips _ _ _ label e w ((λ z. i (s ∙ z)), ((λ z. j (s ∙ z)), ((λ z. k (s ∙ z)), tt))))
+      refused g (by_blocks _ (λ v. skips (taken label []).names (taken label []).ends (taken label []).fixed label e w ((λ z. i (s ∙ z)), ((λ z. j (s ∙ z)), ((λ z. k (s ∙ z)), tt))))
       (λ a b bs v. absurd (let z : ◌≡◌ {A = ℕ} 0 1 = cc (v.top, h) in omega arith)) (λ a b bs v. absurd (let z : ◌≡◌ {A = ℕ} 0 1 = cc (v.top, h) in omega arith)))
 
   pub no_word_object : {c : ℕ} → c ≡ sign_of e → (c ≡ 94 → ⊥) → (c ≡ 1 → ⊥) → (c ≡ 3 → ⊥) → (c ≡ 2 → ⊥) → Word e → t.top ≡ tops.Object → r ≡ giving t (stop 6) → Does label t machine.at_semicolon e r
   no_word_object s i j k m w h g =
       refused g (by_blocks _ (λ v. absurd (let z : ◌≡◌ {A = ℕ} 0 1 = cc (v.top, h) in omega arith))
-      (λ a b bs v. skips _ _ _ label e w ((λ z. m (s ∙ z)), ((λ z. i (s ∙ z)), ((λ z. j (s ∙ z)), ((λ z. k (s ∙ z)), tt)))))
+      (λ a b bs v. skips (taken label (block kinds.Object a b ∷ bs)).names (taken label (block kinds.Object a b ∷ bs)).ends (taken label (block kinds.Object a b ∷ bs)).fixed label e w ((λ z. m (s ∙ z)), ((λ z. i (s ∙ z)), ((λ z. j (s ∙ z)), ((λ z. k (s ∙ z)), tt)))))
       (λ a b bs v. absurd (let z : ◌≡◌ {A = ℕ} 0 1 = cc (v.top, h) in omega arith)))
 
   pub no_word_group : {c : ℕ} → c ≡ sign_of e → (c ≡ 94 → ⊥) → (c ≡ 1 → ⊥) → (c ≡ 3 → ⊥) → (c ≡ 4 → ⊥) → Word e → t.top ≡ tops.Group → r ≡ giving t (stop 6) → Does label t machine.at_semicolon e r
   no_word_group s i j k m w h g =
       refused g (by_blocks _ (λ v. absurd (let z : ◌≡◌ {A = ℕ} 0 1 = cc (v.top, h) in omega arith))
       (λ a b bs v. absurd (let z : ◌≡◌ {A = ℕ} 0 1 = cc (v.top, h) in omega arith))
-      (λ a b bs v. skips _ _ _ label e w ((λ z. m (s ∙ z)), ((λ z. i (s ∙ z)), ((λ z. j (s ∙ z)), ((λ z. k (s ∙ z)), tt))))))
+      (λ a b bs v. skips (taken label (block kinds.Group a b ∷ bs)).names (taken label (block kinds.Group a b ∷ bs)).ends (taken label (block kinds.Group a b ∷ bs)).fixed label e w ((λ z. m (s ∙ z)), ((λ z. i (s ∙ z)), ((λ z. j (s ∙ z)), ((λ z. k (s ∙ z)), tt))))))
 
 -- ---- END, and what cannot begin a statement
 
@@ -151,12 +157,17 @@ tagged (Time x a b) h = absurd (omega arith)
 tagged (Text a b) h = absurd (omega arith)
 tagged (Symbol a b) h = absurd (omega arith)
 
+pub the_word : {e : Element} {k : fixed.Fixed} {a b : ℕ} → e ≡ The k a b → Word e
+the_word h = rw h a_word
+
 pub is_word : {e : Element} → tag_of (declared enum) e ≡ 1 → Word e
 is_word {e} h = tagged e h
 
 module _ {label : List ℕ} {t : State} {e : Element} {r : Stepped} where
   pub no_statement : r ≡ giving t (stop 6) → OneOf (3 ∷ 4 ∷ 5 ∷ 6 ∷ 7 ∷ 8 ∷ []) (tag_of (declared enum) e) → Does label t machine.at_semicolon e r
-  no_statement g h = refused g (by_blocks _ (λ v. not_statement _ _ _ label e h) (λ a b bs v. not_statement _ _ _ label e h) (λ a b bs v. not_statement _ _ _ label e h))
+  no_statement g h = refused g (by_blocks _ (λ v. not_statement (taken label []).names (taken label []).ends (taken label []).fixed label e h)
+      (λ a b bs v. not_statement (taken label (block kinds.Object a b ∷ bs)).names (taken label (block kinds.Object a b ∷ bs)).ends (taken label (block kinds.Object a b ∷ bs)).fixed label e h)
+      (λ a b bs v. not_statement (taken label (block kinds.Group a b ∷ bs)).names (taken label (block kinds.Group a b ∷ bs)).ends (taken label (block kinds.Group a b ∷ bs)).fixed label e h))
 
   pub ends_set_off : {s : State} {off : Bool} {a b : ℕ} → e ≡ End off a b → t.top ≡ tops.Outside → off ≡ true → r ≡ giving s (one_row (rows.Last b)) → s ≡ awaiting t await.Ended → Does label t machine.at_semicolon e r
   ends_set_off y h o z i =
@@ -172,4 +183,4 @@ module _ {label : List ℕ} {t : State} {e : Element} {r : Stepped} where
   ends_inside s h o g =
       halts_known s g (by_blocks _ (λ v. absurd (false≢true (ap is_open (sym v.top ∙ h) ∙ o))) (λ a b bs v. refl) (λ a b bs v. refl))
 
-pub ruleset begins = (begins_name, begins_pointer, closes_object, closes_group, opens_too_deep, opens_block, no_word_outside, no_word_object, no_word_group, no_statement, ends_set_off, ends_loose, ends_inside, is_word, rules)
+pub ruleset begins = (begins_name, begins_pointer, closes_object, closes_group, opens_too_deep, opens_block, no_word_outside, no_word_object, no_word_group, no_statement, ends_set_off, ends_loose, ends_inside, is_word, the_word, sorts_but_beginners, rules)

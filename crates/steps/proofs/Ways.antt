@@ -31,7 +31,7 @@ use Rattle.rows.specs.declared.Nest.TheVariants as nests
 use Rattle.steps.specs.declared.Awaited.{Awaited}
 use Rattle.steps.specs.declared.State.{State}
 use Rattle.steps.specs.declared.Stepped.{Stepped}
-use Rattle.steps.proofs.Offers.{look, hit, pass, none_taken, keys, Avoids, pass_all, not_name, not_whole}
+use Rattle.steps.proofs.Offers.{look, hit, pass, none_taken, keys, Avoids, pass_all, not_name, not_whole, sorts_but_name, sorts_but_whole}
 
 module _ {label : List ℕ} {t : State} {q : machine.State} {e : Element} where
   made : (s : State) (g : Given) → Leaves label t e s g →
@@ -231,8 +231,8 @@ pub opened_name : {label : List ℕ} {t : State} {e : Element} {r : Stepped} {s 
     Does label t (machine.at_opened (kind_of t.kind)) e r
 opened_name {t = t} h y z i = known y z i (record { room = λ x. tt; settles = (y, in_room t h, refl) }) (λ bs v. refl)
 
-pub ruleset ways = (known, hits, misses, no_name, no_whole, passes, passes2, scalar_known, scalar_signed, no_scalar, after_end, too_large, in_limit, rules)
+pub ruleset ways = (known, hits, misses, no_name, no_whole, sorts_but_name, sorts_but_whole, passes, passes2, scalar_known, scalar_signed, no_scalar, after_end, too_large, in_limit, rules)
 
-pub ruleset openings = (opener_equals, opened_name, misses, no_name, rules)
+pub ruleset openings = (opener_equals, opened_name, misses, no_name, sorts_but_name, rules)
 
 pub ruleset unmet = (misses, rules)

@@ -1,6 +1,5 @@
 -- `name_end` meets its contract.
 use Rattle.blocks.proofs.Opened.{stack}
-use borrow.Author.Rules.{rules}
 use Rattle.blocks.proofs.name_end.Goals as goal
 
 pub returns-then-d-eq0 : goal.returns-then-d-eq0

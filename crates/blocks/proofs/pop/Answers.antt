@@ -1,6 +1,5 @@
 -- `pop` meets its contract.
 use Rattle.blocks.proofs.Opened.{stack}
-use borrow.Author.Rules.{rules}
 use Rattle.blocks.proofs.pop.Goals as goal
 
 pub returns-then-b-gt0 : goal.returns-then-b-gt0

@@ -1,6 +1,5 @@
 -- `top_of` meets its contract.
 use Rattle.blocks.proofs.Opened.{stack}
-use borrow.Author.Rules.{rules}
 use Rattle.blocks.proofs.top_of.Goals as goal
 
 pub returns-then-d-eq0 : goal.returns-then-d-eq0

@@ -1,5 +1,4 @@
 -- `folded` meets its contract.
-use borrow.Author.Rules.{rules}
 use Rattle.classes.proofs.Folds.{lower_least, fold_yes, fold_no}
 use Rattle.classes.proofs.folded.Goals as goal
 

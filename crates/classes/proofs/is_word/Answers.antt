@@ -1,7 +1,6 @@
 -- A byte of a word: a letter, or one of the others.
 use mathlib.Core.Path.{◌≡◌, sym, ◌∙◌}
 use mathlib.Core.Bool.{Bool, true, false, ◌||◌}
-use borrow.Author.Rules.{rules}
 use Rattle.classes.proofs.is_word.Goals as goal
 
 first : (x y z : Bool) → x ≡ true → true ≡ ((x || y) || z)

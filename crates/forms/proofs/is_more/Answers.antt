@@ -1,7 +1,4 @@
 -- Each turn of the loop is one step of the rule.
-use Prim.Native.Nat.{◌-◌}
-use lib.ListN.{length}
-use Rattle.forms.proofs.Identifiers.{Going}
 use borrow.Author.Rules.{rules}
 use Rattle.forms.proofs.Identifiers.{going, plain_turn, under_turn, other_byte, two_unders, gone}
 use Rattle.forms.proofs.is_more.Goals as goal

@@ -2,8 +2,6 @@
 use Prim.Native.Nat.{◌-◌}
 use lib.ListN.{length}
 use Rattle.forms.proofs.Identifiers.{Going}
-use borrow.Author.Rules.{rules}
-use Rattle.forms.proofs.Identifiers.{going, plain_turn, under_turn, other_byte, two_unders, gone}
 use Rattle.forms.proofs.is_more.Given as goal
 
 abbrev pub invariant-loop-i : goal.invariant-loop-i

@@ -1,6 +1,5 @@
 -- `encode` meets its contract.
 use Rattle.rows.proofs.Encoding.{encodings}
-use borrow.Author.Rules.{rules}
 use Rattle.rows.proofs.encode.Goals as goal
 
 pub returns-in-Attribute : goal.returns-in-Attribute

@@ -1,6 +1,5 @@
 -- `row_at` meets its contract.
 use Rattle.rows.proofs.Decoding.{rowed}
-use borrow.Author.Rules.{rules}
 use Rattle.rows.proofs.row_at.Goals as goal
 
 pub returns-then-n-at : goal.returns-then-n-at

@@ -6,7 +6,7 @@ use native.Mathlib.Omega.{arith}
 use lib.ListN.{length}
 use Rattle.rules.specs.Data.{RowOf, attribute, pointer, opened, closed, an_integer, a_real, a_moment, a_text, a_symbol, a_unit, sequence, sequence_end, set, set_end, last}
 use Rattle.rules.specs.Proper.{aside}
-use Rattle.rules.proofs.Machine.Rows.{Sort, sort, Await, Kinds, To, to_none, to, sort_step, RowRun, row_here, row_by, carried, row_run}
+use Rattle.rules.proofs.Machine.Rows.{sort, Await, Kinds, To, to_none, to, sort_step, RowRun, row_here, row_by, carried, row_run}
 
 pub none_to : {t : Await} {o : Kinds} → to_none ≡ to t o → ⊥
 none_to {t} {o} e = let w : ◌≡◌ {A = ℕ} 0 1 = cc in omega arith

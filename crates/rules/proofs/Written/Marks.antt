@@ -5,7 +5,7 @@ use mathlib.Core.List.{List, [], ◌∷◌, map}
 use Rattle.rules.specs.Data.{Span, MomentOf, Moment, Opens, RowOf, Row, attribute, pointer, opened, closed, an_integer, a_real, a_moment, a_text, a_symbol, a_unit, sequence, sequence_end, set, set_end, last}
 use Rattle.rules.specs.Proper.{stretch, aside}
 use Rattle.rules.specs.Meaning.{Sense, fold_all, reassemble, unmarked, sense, meaning}
-use Rattle.rules.specs.Written.{Prior, prior, after, written_mark}
+use Rattle.rules.specs.Written.{prior, after, written_mark}
 
 -- ---- marks changed
 

@@ -2,7 +2,7 @@
 use Prim.Native.Nat.{ℕ}
 use mathlib.Core.Bool.{Bool, true, false, cond}
 use mathlib.Core.Logic.{inl, inr}
-use mathlib.Core.Path.{◌≡◌, refl, sym, ap, ap₂, ◌∙◌, transport}
+use mathlib.Core.Path.{◌≡◌, refl, sym, ap, ap₂, ◌∙◌}
 use mathlib.Core.List.{List, [], ◌∷◌, ◌++◌, map}
 use native.Mathlib.Omega.{arith}
 use borrow.Author.Tests.{eqb-true}
@@ -11,7 +11,7 @@ use Rattle.rules.specs.Data.{Moment, RowOf, Row, a_moment}
 use Rattle.rules.specs.Proper.{Each, none, one, aside}
 use Rattle.rules.specs.Meaning.{Sense}
 use Rattle.rules.specs.Written.{written_mark}
-use Rattle.rules.proofs.Machine.Limits.{Dated, Marked, Timed, Untimed, MomentHeld, date_alone, time_alone, date_and_time, Valued}
+use Rattle.rules.proofs.Machine.Limits.{Dated, Marked, Timed, MomentHeld, date_alone, time_alone, date_and_time, Valued}
 use Rattle.rules.proofs.Machine.Rows.{Sort, sort}
 use Rattle.rules.proofs.Written.Marks.{on_moment, other_rows, unmark, as_written, aside_on, Wording}
 use Rattle.rules.proofs.Written.Clean.{Clean}

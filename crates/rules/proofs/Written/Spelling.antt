@@ -10,7 +10,7 @@ use borrow.Author.Tests.{ne_eqb, le-leb}
 use lib.Dec.{leb, eqb}
 use lib.ListN.{length, length-append}
 use Rattle.rules.specs.Values.{each}
-use Rattle.rules.specs.Written.{is_one, is_name, decimal, real_bytes, moment_bytes, open_word, close_word, Prior, start, heading, member, factor, prior, indent, new_line, after, around, canonical}
+use Rattle.rules.specs.Written.{is_one, is_name, decimal, real_bytes, open_word, close_word, Prior, start, heading, member, factor, prior, indent, new_line, after, around}
 use Rattle.rules.specs.Proper.{Each, the_rules}
 use Rattle.rules.specs.Bytes.{between, word_byte, front, All, ascii}
 use Rattle.rules.specs.Data.{Whole, Fixed, equals, comma, caret, less, greater, lpar, rpar, lbrace, rbrace, power, Elem, name, the, end, integer, real, moment, text, symbol, ◌on◌, Kind, object, group, opener, closer, Op, first, times, divided, Opens, outside, inside, depth, attribute, pointer, opened, closed, an_integer, a_real, a_moment, a_text, a_symbol, a_unit, sequence, sequence_end, set, set_end, last}

@@ -1,6 +1,5 @@
 -- `step`: the function of what the element is met as does what the state asks.
 use Rattle.steps.proofs.Meeting.{met}
-use borrow.Author.Rules.{rules}
 use Rattle.steps.proofs.step.Goals as goal
 
 pub returns-in-Statement : goal.returns-in-Statement

@@ -1,7 +1,4 @@
 -- `names::alike` meets its contract.
-use Rattle.classes.proofs.Folds.{Alike}
-use Prim.Native.Nat.{◌-◌}
-use lib.ListN.{length}
 use borrow.Author.Rules.{rules}
 use Rattle.classes.proofs.Folds.{alike_starts, alike_uneven, alike_turns, alike_not, alike_ends}
 use Rattle.classes.proofs.names.alike.Goals as goal

@@ -2,8 +2,6 @@
 use Rattle.classes.proofs.Folds.{Alike}
 use Prim.Native.Nat.{◌-◌}
 use lib.ListN.{length}
-use borrow.Author.Rules.{rules}
-use Rattle.classes.proofs.Folds.{alike_starts, alike_uneven, alike_turns, alike_not, alike_ends}
 use Rattle.classes.proofs.names.alike.Given as goal
 
 abbrev pub invariant-loop-i : goal.invariant-loop-i

@@ -1,5 +1,4 @@
 -- `spans::part` meets its contract.
-use borrow.Author.Rules.{rules}
 use Rattle.classes.proofs.Parts.{part_crossed, part_past, part_inside, part_rest}
 use Rattle.classes.proofs.spans.part.Goals as goal
 

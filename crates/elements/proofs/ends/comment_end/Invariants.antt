@@ -1,9 +1,8 @@
 -- Each turn of the loop is one constructor of the rule.
 use Prim.Native.Nat.{◌-◌}
-use borrow.Author.Rules.{rules}
 use lib.ListN.{length}
 use Rattle.rules.specs.Elements.{in_comment}
-use Rattle.classes.proofs.Runs.{Passing, start, comment_turn, comment_stop, comment_last}
+use Rattle.classes.proofs.Runs.{Passing}
 use Rattle.elements.proofs.ends.comment_end.Given as goal
 
 abbrev pub invariant-loop-i : goal.invariant-loop-i

@@ -1,9 +1,8 @@
 -- Each turn of the loop is one constructor of the rule.
 use Prim.Native.Nat.{◌-◌}
-use borrow.Author.Rules.{rules}
 use lib.ListN.{length}
 use Rattle.rules.specs.Elements.{in_line}
-use Rattle.classes.proofs.Runs.{Passing, start, line_turn, line_stop, line_last}
+use Rattle.classes.proofs.Runs.{Passing}
 use Rattle.elements.proofs.ends.line_end.Given as goal
 
 abbrev pub invariant-loop-i : goal.invariant-loop-i

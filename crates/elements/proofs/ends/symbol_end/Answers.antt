@@ -1,9 +1,6 @@
 -- Each turn of the loop is one constructor of the rule.
-use Prim.Native.Nat.{◌-◌}
 use borrow.Author.Rules.{rules}
-use lib.ListN.{length}
-use Rattle.rules.specs.Elements.{in_symbol}
-use Rattle.classes.proofs.Runs.{Passing, start, symbol_turn, symbol_stop, symbol_last}
+use Rattle.classes.proofs.Runs.{start, symbol_turn, symbol_stop, symbol_last}
 use Rattle.elements.proofs.ends.symbol_end.Goals as goal
 
 ruleset ways = (start, symbol_turn, symbol_stop, symbol_last, rules)

@@ -1,9 +1,6 @@
 -- Each turn of the loop is one constructor of the rule.
-use Prim.Native.Nat.{◌-◌}
 use borrow.Author.Rules.{rules}
-use lib.ListN.{length}
-use Rattle.rules.specs.Elements.{in_text}
-use Rattle.classes.proofs.Runs.{Passing, start, text_turn, text_stop, text_last}
+use Rattle.classes.proofs.Runs.{start, text_turn, text_stop, text_last}
 use Rattle.elements.proofs.ends.text_end.Goals as goal
 
 ruleset ways = (start, text_turn, text_stop, text_last, rules)

@@ -1,9 +1,6 @@
 -- Each turn of the loop is one constructor of the rule.
-use Prim.Native.Nat.{◌-◌}
 use borrow.Author.Rules.{rules}
-use lib.ListN.{length}
-use Rattle.rules.specs.Elements.{in_word}
-use Rattle.classes.proofs.Runs.{Passing, start, word_turn, word_stop, word_last}
+use Rattle.classes.proofs.Runs.{start, word_turn, word_stop, word_last}
 use Rattle.elements.proofs.ends.word_end.Goals as goal
 
 ruleset ways = (start, word_turn, word_stop, word_last, rules)

@@ -2,8 +2,6 @@
 use Prim.Native.Nat.{◌-◌}
 use lib.ListN.{length}
 use Rattle.elements.proofs.Skips.{Skipping}
-use borrow.Author.Rules.{rules}
-use Rattle.elements.proofs.Skips.{start, blank_turn, remark_turn, remark_less, opens, broken_at, clear_first, clear_second, clear_end}
 use Rattle.elements.proofs.gaps.skip_gap.Given as goal
 
 abbrev pub invariant-loop-i : goal.invariant-loop-i

@@ -1,9 +1,6 @@
 -- Each turn of the loop is one constructor of the rule.
-use Prim.Native.Nat.{◌-◌}
 use borrow.Author.Rules.{rules}
-use lib.ListN.{length}
-use Rattle.rules.specs.Bytes.{front, alnum}
-use Rattle.classes.proofs.Runs.{Passing, start}
+use Rattle.classes.proofs.Runs.{start}
 use Rattle.classes.proofs.Runs.{alnum_turn, alnum_stop, alnum_last}
 use Rattle.forms.proofs.ends.alnum_end.Goals as goal
 

@@ -1,10 +1,8 @@
 -- Each turn of the loop is one constructor of the rule.
 use Prim.Native.Nat.{◌-◌}
-use borrow.Author.Rules.{rules}
 use lib.ListN.{length}
 use Rattle.rules.specs.Bytes.{front, alnum}
-use Rattle.classes.proofs.Runs.{Passing, start}
-use Rattle.classes.proofs.Runs.{alnum_turn, alnum_stop, alnum_last}
+use Rattle.classes.proofs.Runs.{Passing}
 use Rattle.forms.proofs.ends.alnum_end.Given as goal
 
 abbrev pub invariant-loop-i : goal.invariant-loop-i

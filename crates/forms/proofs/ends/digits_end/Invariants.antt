@@ -1,9 +1,8 @@
 -- Each turn of the loop is one constructor of the rule.
 use Prim.Native.Nat.{◌-◌}
-use borrow.Author.Rules.{rules}
 use lib.ListN.{length}
 use Rattle.rules.specs.Bytes.{front, digit}
-use Rattle.classes.proofs.Runs.{Passing, start, digit_turn, digit_stop, digit_last}
+use Rattle.classes.proofs.Runs.{Passing}
 use Rattle.forms.proofs.ends.digits_end.Given as goal
 
 abbrev pub invariant-loop-i : goal.invariant-loop-i

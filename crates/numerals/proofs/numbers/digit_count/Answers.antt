@@ -1,5 +1,4 @@
 -- `numbers::digit_count` meets its contract.
-use Rattle.numerals.proofs.Digits.{Counting}
 use borrow.Author.Rules.{rules}
 use Rattle.numerals.proofs.Digits.{count_start, count_turn, count_less, count_end}
 use Rattle.numerals.proofs.numbers.digit_count.Goals as goal

@@ -1,7 +1,5 @@
 -- `numbers::digit_count` meets its contract.
 use Rattle.numerals.proofs.Digits.{Counting}
-use borrow.Author.Rules.{rules}
-use Rattle.numerals.proofs.Digits.{count_start, count_turn, count_less, count_end}
 use Rattle.numerals.proofs.numbers.digit_count.Given as goal
 
 abbrev pub invariant-loop-v : goal.invariant-loop-v

@@ -1,5 +1,4 @@
 -- `numbers::put_decimal` meets its contract.
-use borrow.Author.Rules.{rules}
 use Rattle.output.proofs.Laws.{onward}
 use native.Mathlib.Omega.{arith}
 use Rattle.numerals.proofs.numbers.put_decimal.Goals as goal

@@ -1,5 +1,4 @@
 -- `numbers::put_digits` meets its contract.
-use borrow.Author.Rules.{rules}
 use native.Mathlib.Omega.{arith}
 use Rattle.numerals.proofs.RealForms.{counted}
 use Rattle.numerals.proofs.numbers.put_digits.Goals as goal

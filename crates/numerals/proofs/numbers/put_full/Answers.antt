@@ -1,5 +1,4 @@
 -- `numbers::put_full` meets its contract.
-use borrow.Author.Rules.{rules}
 use Rattle.output.proofs.Laws.{onward_three}
 use native.Mathlib.Omega.{arith}
 use Rattle.numerals.proofs.numbers.put_full.Goals as goal

@@ -1,6 +1,5 @@
 -- `numbers::put_plain` meets its contract.
 -- three parts: digits, the period, and as many digits as places
-use borrow.Author.Rules.{rules}
 use Rattle.output.proofs.Laws.{onward_three}
 use native.Mathlib.Omega.{arith}
 use Rattle.numerals.proofs.RealForms.{in_plain}

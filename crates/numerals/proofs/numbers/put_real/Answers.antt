@@ -1,5 +1,4 @@
 -- `numbers::put_real` meets its contract.
-use borrow.Author.Rules.{rules}
 use Rattle.output.proofs.Laws.{onward}
 use native.Mathlib.Omega.{arith}
 use Rattle.numerals.proofs.numbers.put_real.Goals as goal

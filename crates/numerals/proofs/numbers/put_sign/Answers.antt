@@ -1,5 +1,4 @@
 -- `numbers::put_sign` meets its contract.
-use borrow.Author.Rules.{rules}
 use native.Mathlib.Omega.{arith}
 use Rattle.numerals.proofs.RealForms.{minus, no_minus}
 use Rattle.numerals.proofs.numbers.put_sign.Goals as goal

@@ -1,5 +1,4 @@
 -- `numbers::put_unsigned` meets its contract.
-use borrow.Author.Rules.{rules}
 use native.Mathlib.Omega.{arith}
 use Rattle.numerals.proofs.RealForms.{as_plain, as_scaled_below, as_full, as_scaled}
 use Rattle.numerals.proofs.numbers.put_unsigned.Goals as goal

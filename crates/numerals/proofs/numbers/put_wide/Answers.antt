@@ -1,6 +1,5 @@
 -- `numbers::put_wide` meets its contract.
-use Prim.Native.Nat.{◌-◌, ◌/◌, ◌^◌}
-use Rattle.numerals.proofs.Digits.{Wide, wide_end}
+use Rattle.numerals.proofs.Digits.{wide_end}
 use borrow.Author.Rules.{rules}
 use Rattle.numerals.proofs.Digits.{wide_start, wide_turn}
 use Rattle.numerals.proofs.numbers.put_wide.Goals as goal

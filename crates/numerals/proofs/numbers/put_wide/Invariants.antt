@@ -1,8 +1,6 @@
 -- `numbers::put_wide` meets its contract.
 use Prim.Native.Nat.{◌-◌, ◌/◌, ◌^◌}
-use Rattle.numerals.proofs.Digits.{Wide, wide_end}
-use borrow.Author.Rules.{rules}
-use Rattle.numerals.proofs.Digits.{wide_start, wide_turn}
+use Rattle.numerals.proofs.Digits.{Wide}
 use Rattle.numerals.proofs.numbers.put_wide.Given as goal
 
 abbrev pub invariant-loop-i : goal.invariant-loop-i

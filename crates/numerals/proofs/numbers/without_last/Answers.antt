@@ -1,6 +1,4 @@
 -- `numbers::without_last` meets its contract.
-use Prim.Native.Nat.{◌-◌}
-use Rattle.numerals.proofs.Digits.{Fewer}
 use borrow.Author.Rules.{rules}
 use Rattle.numerals.proofs.Digits.{fewer_start, fewer_turn, fewer_end}
 use Rattle.numerals.proofs.numbers.without_last.Goals as goal

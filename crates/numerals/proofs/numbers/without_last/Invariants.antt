@@ -1,8 +1,6 @@
 -- `numbers::without_last` meets its contract.
 use Prim.Native.Nat.{◌-◌}
 use Rattle.numerals.proofs.Digits.{Fewer}
-use borrow.Author.Rules.{rules}
-use Rattle.numerals.proofs.Digits.{fewer_start, fewer_turn, fewer_end}
 use Rattle.numerals.proofs.numbers.without_last.Given as goal
 
 abbrev pub invariant-loop-i : goal.invariant-loop-i

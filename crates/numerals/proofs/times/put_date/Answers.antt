@@ -1,5 +1,4 @@
 -- `times::put_date` meets its contract.
-use borrow.Author.Rules.{rules}
 use Rattle.output.proofs.Laws.{onward_three}
 use native.Mathlib.Omega.{arith}
 use Rattle.numerals.proofs.times.put_date.Goals as goal

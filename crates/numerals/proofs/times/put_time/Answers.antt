@@ -1,5 +1,4 @@
 -- `times::put_time` meets its contract.
-use borrow.Author.Rules.{rules}
 use Rattle.output.proofs.Laws.{onward_three}
 use native.Mathlib.Omega.{arith}
 use Rattle.numerals.proofs.Moments.{in_time}

@@ -1,5 +1,4 @@
 -- `times::put_two` meets its contract.
-use borrow.Author.Rules.{rules}
 use Rattle.output.proofs.Laws.{onward}
 use native.Mathlib.Omega.{arith}
 use Rattle.numerals.proofs.times.put_two.Goals as goal

@@ -1,5 +1,4 @@
 -- `times::trim` meets its contract.
-use Rattle.numerals.proofs.Digits.{Trimming}
 use borrow.Author.Rules.{rules}
 use Rattle.numerals.proofs.Digits.{trim_start, trim_turn, trim_end, trim_none}
 use Rattle.numerals.proofs.times.trim.Goals as goal

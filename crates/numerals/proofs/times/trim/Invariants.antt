@@ -1,7 +1,5 @@
 -- `times::trim` meets its contract.
 use Rattle.numerals.proofs.Digits.{Trimming}
-use borrow.Author.Rules.{rules}
-use Rattle.numerals.proofs.Digits.{trim_start, trim_turn, trim_end, trim_none}
 use Rattle.numerals.proofs.times.trim.Given as goal
 
 abbrev pub invariant-loop-k : goal.invariant-loop-k

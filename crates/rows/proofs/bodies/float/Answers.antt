@@ -1,6 +1,5 @@
 -- `bodies::float` meets its contract.
 use Rattle.rows.proofs.Decoding.{bodies}
-use borrow.Author.Rules.{rules}
 use Rattle.rows.proofs.bodies.float.Goals as goal
 
 pub returns : goal.returns

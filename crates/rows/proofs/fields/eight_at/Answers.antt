@@ -1,6 +1,5 @@
 -- `fields::eight_at` meets its contract.
 use Rattle.rows.proofs.Octets.{numbers}
-use borrow.Author.Rules.{rules}
 use Rattle.rows.proofs.fields.eight_at.Goals as goal
 
 pub returns : goal.returns

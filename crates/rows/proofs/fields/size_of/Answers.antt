@@ -1,6 +1,5 @@
 -- `fields::size_of` meets its contract.
 use Rattle.rows.proofs.Octets.{numbers}
-use borrow.Author.Rules.{rules}
 use Rattle.rows.proofs.fields.size_of.Goals as goal
 
 pub returns-then-half-v : goal.returns-then-half-v

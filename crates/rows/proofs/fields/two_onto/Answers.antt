@@ -1,6 +1,5 @@
 -- `fields::two_onto` meets its contract.
 use Rattle.rows.proofs.Octets.{numbers}
-use borrow.Author.Rules.{rules}
 use Rattle.rows.proofs.fields.two_onto.Goals as goal
 
 pub returns : goal.returns

@@ -1,6 +1,5 @@
 -- `numbers::encode_byte` meets its contract.
 use Rattle.rows.proofs.Writing.{writes}
-use borrow.Author.Rules.{rules}
 use Rattle.rows.proofs.numbers.encode_byte.Goals as goal
 
 pub returns : goal.returns

@@ -1,6 +1,5 @@
 -- `numbers::encode_eight` meets its contract.
 use Rattle.rows.proofs.Writing.{onward, in_eight}
-use borrow.Author.Rules.{rules}
 use Rattle.rows.proofs.numbers.encode_eight.Goals as goal
 
 pub returns : goal.returns

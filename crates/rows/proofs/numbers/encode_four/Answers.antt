@@ -1,6 +1,5 @@
 -- `numbers::encode_four` meets its contract.
 use Rattle.rows.proofs.Writing.{onward, in_four}
-use borrow.Author.Rules.{rules}
 use Rattle.rows.proofs.numbers.encode_four.Goals as goal
 
 pub returns : goal.returns

@@ -1,6 +1,5 @@
 -- `numbers::encode_two` meets its contract.
 use Rattle.rows.proofs.Writing.{writes}
-use borrow.Author.Rules.{rules}
 use Rattle.rows.proofs.numbers.encode_two.Goals as goal
 
 pub returns : goal.returns

@@ -1,6 +1,5 @@
 -- `numbers::twos16` meets its contract.
 use native.Mathlib.Omega.{arith}
-use borrow.Author.Rules.{rules}
 use Rattle.rows.proofs.numbers.twos16.Goals as goal
 
 pub returns-then-minus : goal.returns-then-minus

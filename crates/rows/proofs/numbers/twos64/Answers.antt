@@ -1,7 +1,6 @@
 -- `numbers::twos64` meets its contract.
 use native.Mathlib.Omega.{arith}
 use Rattle.rows.proofs.Writing.{minus_none, minus, not_minus}
-use borrow.Author.Rules.{rules}
 use Rattle.rows.proofs.numbers.twos64.Goals as goal
 
 pub returns-then-v-eq0 : goal.returns-then-v-eq0

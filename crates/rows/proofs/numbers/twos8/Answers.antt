@@ -1,7 +1,6 @@
 -- `numbers::twos8` meets its contract.
 use native.Mathlib.Omega.{arith}
 use Rattle.rows.proofs.Writing.{byte_minus, byte}
-use borrow.Author.Rules.{rules}
 use Rattle.rows.proofs.numbers.twos8.Goals as goal
 
 pub returns-then-v-ge256 : goal.returns-then-v-ge256

@@ -1,6 +1,5 @@
 -- `shapes::encode_moment` meets its contract.
 use Rattle.rows.proofs.Writing.{onward}
-use borrow.Author.Rules.{rules}
 use Rattle.rows.proofs.shapes.encode_moment.Goals as goal
 
 pub returns : goal.returns

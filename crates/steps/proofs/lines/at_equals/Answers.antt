@@ -1,6 +1,5 @@
 -- `lines::at_equals` meets its contract.
 use Rattle.steps.proofs.Ways.{ways}
-use borrow.Author.Rules.{rules}
 use Rattle.steps.proofs.lines.at_equals.Goals as goal
 
 pub returns-then-c-eq61 : goal.returns-then-c-eq61

@@ -1,7 +1,9 @@
 -- `lines::begin` meets its contract.
 use Rattle.steps.proofs.Starts.{begins}
-use borrow.Author.Rules.{rules}
 use Rattle.steps.proofs.lines.begin.Goals as goal
+
+pub word-requires : goal.word-requires
+word-requires c = search begins
 
 pub returns-then-off : goal.returns-then-off
 returns-then-off c = search begins

@@ -1,6 +1,5 @@
 -- `lines::block_equals` meets its contract.
 use Rattle.steps.proofs.Ways.{openings}
-use borrow.Author.Rules.{rules}
 use Rattle.steps.proofs.lines.block_equals.Goals as goal
 
 pub returns-then-c-eq61 : goal.returns-then-c-eq61

@@ -1,6 +1,5 @@
 -- `lines::block_name` meets its contract.
 use Rattle.steps.proofs.Ways.{openings}
-use borrow.Author.Rules.{rules}
 use Rattle.steps.proofs.lines.block_name.Goals as goal
 
 pub returns-in_default : goal.returns-in_default

@@ -1,6 +1,5 @@
 -- `lines::closing_name` meets its contract.
 use Rattle.steps.proofs.Closings.{closings}
-use borrow.Author.Rules.{rules}
 use Rattle.steps.proofs.lines.closing_name.Goals as goal
 
 pub returns-in_default : goal.returns-in_default

@@ -1,6 +1,5 @@
 -- `lines::open_word` meets its contract.
 use Rattle.steps.proofs.Starts.{begins}
-use borrow.Author.Rules.{rules}
 use Rattle.steps.proofs.lines.open_word.Goals as goal
 
 pub returns-then-is_full : goal.returns-then-is_full

@@ -1,6 +1,5 @@
 -- `lines::pointer` meets its contract.
 use Rattle.steps.proofs.Ways.{ways}
-use borrow.Author.Rules.{rules}
 use Rattle.steps.proofs.lines.pointer.Goals as goal
 
 pub returns-in_default : goal.returns-in_default

@@ -1,6 +1,5 @@
 -- `lines::word` meets its contract.
 use Rattle.steps.proofs.Starts.{begins}
-use borrow.Author.Rules.{rules}
 use Rattle.steps.proofs.lines.word.Goals as goal
 
 pub returns-then-c-eq94 : goal.returns-then-c-eq94

@@ -1,6 +1,5 @@
 -- `moves::passing` meets its contract.
 use Rattle.steps.specs.Steps.{giving}
-use borrow.Author.Rules.{rules}
 use Rattle.steps.proofs.moves.passing.Goals as goal
 
 pub returns : goal.returns

@@ -1,6 +1,5 @@
 -- `moves::refuse` meets its contract.
 use Rattle.steps.specs.Steps.{giving}
-use borrow.Author.Rules.{rules}
 use Rattle.steps.proofs.moves.refuse.Goals as goal
 
 pub returns : goal.returns

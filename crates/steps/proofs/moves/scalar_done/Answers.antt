@@ -1,5 +1,4 @@
 -- `scalar_done`: what follows the scalar is awaited.
-use borrow.Author.Rules.{rules}
 use Rattle.steps.proofs.moves.scalar_done.Goals as goal
 
 pub returns : goal.returns

@@ -1,6 +1,5 @@
 -- `settled`: what an element is met as.
 use Rattle.steps.proofs.Meeting.{met}
-use borrow.Author.Rules.{rules}
 use Rattle.steps.proofs.moves.settled.Goals as goal
 
 pub returns-then-c-eq61 : goal.returns-then-c-eq61

@@ -1,5 +1,4 @@
 -- `moves::with_unit` meets its contract.
-use borrow.Author.Rules.{rules}
 use Rattle.steps.proofs.moves.with_unit.Goals as goal
 
 pub returns : goal.returns

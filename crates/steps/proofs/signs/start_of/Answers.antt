@@ -1,7 +1,6 @@
 -- `signs::start_of` meets its contract.
 use mathlib.Core.Path.{ap, sym, ◌∙◌}
 use Rattle.elements.specs.Next.{place_of}
-use borrow.Author.Rules.{rules}
 use Rattle.steps.proofs.signs.start_of.Goals as goal
 
 pub returns-in-Name : goal.returns-in-Name

@@ -1,7 +1,6 @@
 -- `signs::word_code` meets its contract.
 use mathlib.Core.Path.{ap, sym}
 use Rattle.steps.specs.Signs.{word_code}
-use borrow.Author.Rules.{rules}
 use Rattle.steps.proofs.signs.word_code.Goals as goal
 
 pub returns-in-Object : goal.returns-in-Object

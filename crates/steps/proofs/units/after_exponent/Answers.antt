@@ -1,6 +1,5 @@
 -- `units::after_exponent` meets its contract.
 use Rattle.steps.proofs.Ways.{ways}
-use borrow.Author.Rules.{rules}
 use Rattle.steps.proofs.units.after_exponent.Goals as goal
 
 pub returns-then-c-eq42 : goal.returns-then-c-eq42

@@ -1,6 +1,5 @@
 -- `units::after_unit` meets its contract.
 use Rattle.steps.proofs.Ways.{ways, unmet}
-use borrow.Author.Rules.{rules}
 use Rattle.steps.proofs.units.after_unit.Goals as goal
 
 pub returns-then-c-eq-POWER : goal.returns-then-c-eq-POWER

@@ -1,6 +1,5 @@
 -- `units::exponent` meets its contract.
 use Rattle.steps.proofs.Ways.{ways}
-use borrow.Author.Rules.{rules}
 use Rattle.steps.proofs.units.exponent.Goals as goal
 
 pub returns-in_default : goal.returns-in_default

@@ -1,6 +1,5 @@
 -- `units::unit_name` meets its contract.
 use Rattle.steps.proofs.Ways.{ways}
-use borrow.Author.Rules.{rules}
 use Rattle.steps.proofs.units.unit_name.Goals as goal
 
 pub returns-in_default : goal.returns-in_default

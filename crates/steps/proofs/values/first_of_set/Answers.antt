@@ -1,6 +1,5 @@
 -- `values::first_of_set` meets its contract.
 use Rattle.steps.proofs.Ways.{ways}
-use borrow.Author.Rules.{rules}
 use Rattle.steps.proofs.values.first_of_set.Goals as goal
 
 pub returns-then-c-eq125 : goal.returns-then-c-eq125

@@ -1,6 +1,5 @@
 -- `values::in_sequence` meets its contract.
 use Rattle.steps.proofs.Ways.{ways}
-use borrow.Author.Rules.{rules}
 use Rattle.steps.proofs.values.in_sequence.Goals as goal
 
 pub returns-then-c-eq44 : goal.returns-then-c-eq44

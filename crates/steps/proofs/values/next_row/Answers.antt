@@ -1,6 +1,5 @@
 -- `values::next_row` meets its contract.
 use Rattle.steps.proofs.Ways.{ways}
-use borrow.Author.Rules.{rules}
 use Rattle.steps.proofs.values.next_row.Goals as goal
 
 pub returns-then-c-eq40 : goal.returns-then-c-eq40

@@ -1,6 +1,5 @@
 -- `scalar`: a scalar of each sort, and an element that is none.
 use Rattle.steps.proofs.Ways.{ways}
-use borrow.Author.Rules.{rules}
 use Rattle.steps.proofs.values.scalar.Goals as goal
 
 pub returns-in-Name : goal.returns-in-Name

@@ -1,6 +1,5 @@
 -- `values::value` meets its contract.
 use Rattle.steps.proofs.Ways.{ways}
-use borrow.Author.Rules.{rules}
 use Rattle.steps.proofs.values.value.Goals as goal
 
 pub returns-then-c-eq40 : goal.returns-then-c-eq40

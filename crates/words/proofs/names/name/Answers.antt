@@ -1,5 +1,4 @@
 -- `names::name` meets its contract.
-use borrow.Author.Rules.{rules}
 use Rattle.words.proofs.Reserved.{end, object, end_object, group, end_group, begin_object, plain_name, long_name}
 use Rattle.words.proofs.names.name.Goals as goal
 

@@ -1,8 +1,6 @@
 -- `numbers::in_base` meets its contract.
 use borrow.Author.Rules.{rules}
-use Rattle.words.proofs.Digits.{Basing, base_start, base_turn, base_mul, base_over, base_unfit, base_end}
-use Prim.Native.Nat.{◌-◌}
-use lib.ListN.{length}
+use Rattle.words.proofs.Digits.{base_start, base_turn, base_mul, base_over, base_unfit, base_end}
 use native.Mathlib.Omega.{arith}
 use Rattle.words.proofs.numbers.in_base.Goals as goal
 

@@ -1,8 +1,6 @@
 -- `numbers::number_onto` meets its contract.
 use borrow.Author.Rules.{rules}
-use Prim.Native.Nat.{◌-◌}
-use lib.ListN.{length}
-use Rattle.words.proofs.Digits.{Adding, start, turn, capped, whole}
+use Rattle.words.proofs.Digits.{start, turn, capped, whole}
 use Rattle.words.proofs.numbers.number_onto.Goals as goal
 
 ruleset ways = (start, capped, whole, rules)

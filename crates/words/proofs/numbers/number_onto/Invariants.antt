@@ -1,8 +1,7 @@
 -- `numbers::number_onto` meets its contract.
-use borrow.Author.Rules.{rules}
 use Prim.Native.Nat.{◌-◌}
 use lib.ListN.{length}
-use Rattle.words.proofs.Digits.{Adding, start, turn, capped, whole}
+use Rattle.words.proofs.Digits.{Adding}
 use Rattle.words.proofs.numbers.number_onto.Given as goal
 
 abbrev pub invariant-loop-i : goal.invariant-loop-i

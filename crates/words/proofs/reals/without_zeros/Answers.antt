@@ -1,6 +1,6 @@
 -- `reals::without_zeros` meets its contract.
 use borrow.Author.Rules.{rules}
-use Rattle.words.proofs.Decimals.{Trimming, trim_start, trim_turn, trim_stop, trim_end}
+use Rattle.words.proofs.Decimals.{trim_start, trim_turn, trim_stop, trim_end}
 use Rattle.words.proofs.reals.without_zeros.Goals as goal
 
 ruleset ways = (trim_start, trim_turn, trim_stop, trim_end, rules)

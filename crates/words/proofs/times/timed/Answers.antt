@@ -1,5 +1,4 @@
 -- `times::timed` meets its contract.
-use borrow.Author.Rules.{rules}
 use Rattle.words.proofs.Clocks.{digits_lent, late_hour, late_minute, late_second, many_decimals, time_kept_lem}
 use Rattle.words.proofs.times.timed.Goals as goal
 
