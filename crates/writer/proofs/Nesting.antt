@@ -3,14 +3,11 @@ use Prim.Native.Nat.{ℕ, ◌+◌, ◌≤◌, ◌<◌}
 use native.Mathlib.Omega.{arith}
 use mathlib.Core.Path.{◌≡◌, refl, sym, ap, ◌∙◌}
 use mathlib.Core.Bool.{Bool, true, false, not, false≢true}
-use mathlib.Core.List.{List, [], ◌∷◌}
-use types.Run.{OneOf, miss}
-use denote.Enum.Declared.{tag_of, declared}
+use mathlib.Core.List.{List, ◌∷◌}
 use Rattle.rules.specs.Reading.{longest}
 use Rattle.rows.specs.declared.Kind.{Kind}
 use Rattle.rows.specs.declared.Row.{Row}
 use Rattle.rows.specs.declared.Row.TheVariants as rows
-use Rattle.rows.specs.contracts.Row.{enum}
 use Rattle.blocks.specs.Stack.{Block, block, rest, blocks_of}
 use Rattle.blocks.specs.declared.Blocks.{Blocks}
 use Rattle.writer.specs.Passing.{stack_after, BlocksAfter, Nests}
@@ -35,38 +32,34 @@ pushes b r w k x y e d h = record { deep = omega (arith, h.1); is = λ o. h.0 �
 pub pops : (b r : Blocks) (w : Row) (k : Kind) → w ≡ rows.Close k → b.depth ≤ deepest → (blocks_of r ≡ rest (blocks_of b)) × (r.depth ≤ b.depth) → BlocksAfter b w r
 pops b r w k e d h = record { deep = omega (arith, h.1); is = λ o. h.0 ∙ ap (stack_after (blocks_of b)) (sym e) }
 
--- the tags of the rows that neither open nor close a block
-abbrev plain_tags : List ℕ
-plain_tags = 0 ∷ 1 ∷ 4 ∷ 5 ∷ 6 ∷ 7 ∷ 8 ∷ 9 ∷ 10 ∷ 11 ∷ 12 ∷ 13 ∷ 14 ∷ []
-
 -- any other row leaves the open blocks as they are
-unmoved : (w : Row) → OneOf plain_tags (tag_of (declared enum) w) → (bs : List Block) → stack_after bs w ≡ bs
-unmoved (rows.Attribute x y) h bs = refl
-unmoved (rows.Pointer x y) h bs = refl
-unmoved (rows.Open k x y) h bs = absurd (miss plain_tags 2 tt h)
-unmoved (rows.Close k) h bs = absurd (miss plain_tags 3 tt h)
-unmoved (rows.Integer m n) h bs = refl
-unmoved (rows.Float x) h bs = refl
-unmoved (rows.Time t) h bs = refl
-unmoved (rows.Text x y) h bs = refl
-unmoved (rows.Symbol x y) h bs = refl
-unmoved (rows.Unit o x y m n) h bs = refl
-unmoved rows.Sequence h bs = refl
-unmoved rows.SequenceEnd h bs = refl
-unmoved rows.Set h bs = refl
-unmoved rows.SetEnd h bs = refl
-unmoved (rows.Last n) h bs = refl
+unmoved : (w : Row) → ((k : Kind) (x y : ℕ) → w ≡ rows.Open k x y → ⊥) → ((k : Kind) → w ≡ rows.Close k → ⊥) → (bs : List Block) → stack_after bs w ≡ bs
+unmoved (rows.Attribute x y) h i bs = refl
+unmoved (rows.Pointer x y) h i bs = refl
+unmoved (rows.Open k x y) h i bs = absurd (h k x y refl)
+unmoved (rows.Close k) h i bs = absurd (i k refl)
+unmoved (rows.Integer m n) h i bs = refl
+unmoved (rows.Float x) h i bs = refl
+unmoved (rows.Time t) h i bs = refl
+unmoved (rows.Text x y) h i bs = refl
+unmoved (rows.Symbol x y) h i bs = refl
+unmoved (rows.Unit o x y m n) h i bs = refl
+unmoved rows.Sequence h i bs = refl
+unmoved rows.SequenceEnd h i bs = refl
+unmoved rows.Set h i bs = refl
+unmoved rows.SetEnd h i bs = refl
+unmoved (rows.Last n) h i bs = refl
 
-pub others : (b : Blocks) (w : Row) → b.depth ≤ deepest → OneOf plain_tags (tag_of (declared enum) w) → BlocksAfter b w b
-others b w d h = record { deep = d; is = λ o. sym (unmoved w h (blocks_of b)) }
+pub others : (b : Blocks) (w : Row) → b.depth ≤ deepest → ((k : Kind) (x y : ℕ) → w ≡ rows.Open k x y → ⊥) → ((k : Kind) → w ≡ rows.Close k → ⊥) → BlocksAfter b w b
+others b w d h i = record { deep = d; is = λ o. sym (unmoved w h i (blocks_of b)) }
 
 -- whether there is a block to open or close
 
 pub does_nest : (w : Row) → Nests w true
 does_nest w = record { still = λ e. absurd (false≢true (sym e)) }
 
-pub does_not_nest : (w : Row) → OneOf plain_tags (tag_of (declared enum) w) → Nests w false
-does_not_nest w h = record { still = λ e. unmoved w h }
+pub does_not_nest : (w : Row) → ((k : Kind) (x y : ℕ) → w ≡ rows.Open k x y → ⊥) → ((k : Kind) → w ≡ rows.Close k → ⊥) → Nests w false
+does_not_nest w h i = record { still = λ e. unmoved w h i }
 
 no : (r : Bool) → not r ≡ true → r ≡ false
 no true e = sym e
