@@ -2,11 +2,9 @@
 use Prim.Native.Nat.{ℕ, ◌-◌, ◌≤◌, ◌<◌}
 use native.Mathlib.Omega.{arith}
 use mathlib.Core.Path.{◌≡◌, refl, sym, ap, ◌∙◌}
-use mathlib.Core.List.{List, [], ◌∷◌, ◌++◌}
+use mathlib.Core.List.{List, ◌++◌}
 use lib.ListN.{length, take, drop, length-append, length-take, length-drop}
 use lib.Seq.{take_at, length-take-le}
-use types.Run.{OneOf, miss}
-use denote.Enum.Declared.{tag_of, declared}
 use Rattle.rules.specs.Data.{Row}
 use Rattle.rules.specs.Modes.{base}
 use Rattle.rules.specs.Table.{table}
@@ -19,7 +17,6 @@ use Rattle.statements.specs.Passes.{Reached, Concluded, is_accepted, is_refused}
 use Rattle.statements.specs.declared.Reading.{Reading}
 use Rattle.statements.specs.declared.Reading.TheVariants.{Accepted, TooLong, NoRoom}
 use Rattle.statements.specs.declared.cursor.Cursor.{Cursor}
-use Rattle.statements.specs.contracts.Reading.{enum}
 use Rattle.statements.proofs.Rooms.{copied_front, past}
 use Rattle.statements.proofs.Running.{elsewhere}
 
@@ -53,11 +50,11 @@ carried room {own = own} {c = c} s h q =
     elsewhere s (rw q (simp (length-append, length-take, length-drop) (omega (arith, s.fits)))) (rw q (take_at (take c.n own) (drop c.n room) c.n (length-take-le c.n own s.fits)))
 
 module _ {label own last : List ℕ} {r : Reading} (room : List ℕ) (s : length label ≤ longest) (f : Concluded label own last r) where
-  pub refusal_stands : OneOf (1 ∷ 2 ∷ 3 ∷ 4 ∷ 5 ∷ 6 ∷ 7 ∷ 8 ∷ 9 ∷ 10 ∷ 11 ∷ []) (tag_of (declared enum) r) → Answered base label room (said r) room
+  pub refusal_stands : ((p n : ℕ) → r ≡ Accepted p n → ⊥) → Answered base label room (said r) room
   refusal_stands h = go f h
     where
-      go : {r : Reading} → Concluded label own last r → OneOf (1 ∷ 2 ∷ 3 ∷ 4 ∷ 5 ∷ 6 ∷ 7 ∷ 8 ∷ 9 ∷ 10 ∷ 11 ∷ []) (tag_of (declared enum) r) → Answered base label room (said r) room
-      go (is_accepted j c b) h = absurd (miss (1 ∷ 2 ∷ 3 ∷ 4 ∷ 5 ∷ 6 ∷ 7 ∷ 8 ∷ 9 ∷ 10 ∷ 11 ∷ []) 0 tt h)
+      go : {r : Reading} → Concluded label own last r → ((p n : ℕ) → r ≡ Accepted p n → ⊥) → Answered base label room (said r) room
+      go (is_accepted j c b) h = absurd (h _ _ refl)
       go (is_refused j k q) h = rw q (not_read (read s j))
 
   module _ {p n : ℕ} (e : r ≡ Accepted p n) where

@@ -3,10 +3,8 @@ use Prim.Native.Nat.{ℕ, ◌≤◌}
 use native.Mathlib.Omega.{arith}
 use mathlib.Core.Bool.{Bool}
 use mathlib.Core.Path.{◌≡◌, refl}
-use mathlib.Core.List.{List, [], ◌∷◌}
+use mathlib.Core.List.{List}
 use borrow.Author.Rules.{rules}
-use types.Run.{OneOf, miss}
-use denote.Enum.Declared.{tag_of, declared}
 use Rattle.rules.specs.Data.{Elem, Placed}
 use Rattle.rules.specs.Modes.{Mode}
 use Rattle.rules.specs.Elements.{Breaks, open_at_end, open_at, foreign, Fault, no_element, no_form, past_limit, broken_text, broken_symbol, broken_comment, empty_symbol, long_symbol}
@@ -17,7 +15,6 @@ use Rattle.statements.specs.Answer.{said}
 use Rattle.statements.specs.Passes.{Refusal}
 use Rattle.statements.specs.declared.Reading.{Reading}
 use Rattle.statements.specs.declared.Reading.TheVariants.{Accepted, TooLong, ForeignByte, LeftOpen, NoForm, PastLimit as PastLimitAt, Misplaced, OtherName, TooDeep, EndNotSetOff, EndsEarly, NoRoom}
-use Rattle.statements.specs.contracts.Reading.{enum}
 
 breaks_code : {p : ℕ → Bool} {r : List ℕ} {c : ℕ} → Breaks p r c → (2 ≤ c) × (c ≤ 10)
 breaks_code open_at_end = (omega arith, omega arith)
@@ -66,18 +63,18 @@ refusal_last {c} n2 n3 n4 n5 n6 n7 n8 n9 = record { is = λ x y. rw (ten c (abov
 
 -- ---- what the answers say
 
-pub no_length : (r : Reading) → OneOf (1 ∷ 2 ∷ 3 ∷ 4 ∷ 5 ∷ 6 ∷ 7 ∷ 8 ∷ 9 ∷ 10 ∷ []) (tag_of (declared enum) r) → 0 ≡ (said r).size
-no_length TooLong h = refl
-no_length (ForeignByte p) h = refl
-no_length (LeftOpen p) h = refl
-no_length (NoForm p) h = refl
-no_length (PastLimitAt p) h = refl
-no_length (Misplaced p) h = refl
-no_length (OtherName p) h = refl
-no_length (TooDeep p) h = refl
-no_length (EndNotSetOff p) h = refl
-no_length (EndsEarly p) h = refl
-no_length (Accepted p n) h = absurd (miss (1 ∷ 2 ∷ 3 ∷ 4 ∷ 5 ∷ 6 ∷ 7 ∷ 8 ∷ 9 ∷ 10 ∷ []) 0 tt h)
-no_length (NoRoom p n) h = absurd (miss (1 ∷ 2 ∷ 3 ∷ 4 ∷ 5 ∷ 6 ∷ 7 ∷ 8 ∷ 9 ∷ 10 ∷ []) 11 tt h)
+pub no_length : (r : Reading) → ((p n : ℕ) → r ≡ Accepted p n → ⊥) → ((p n : ℕ) → r ≡ NoRoom p n → ⊥) → 0 ≡ (said r).size
+no_length TooLong h i = refl
+no_length (ForeignByte p) h i = refl
+no_length (LeftOpen p) h i = refl
+no_length (NoForm p) h i = refl
+no_length (PastLimitAt p) h i = refl
+no_length (Misplaced p) h i = refl
+no_length (OtherName p) h i = refl
+no_length (TooDeep p) h i = refl
+no_length (EndNotSetOff p) h i = refl
+no_length (EndsEarly p) h i = refl
+no_length (Accepted p n) h i = absurd (h p n refl)
+no_length (NoRoom p n) h i = absurd (i p n refl)
 
 pub ruleset refusals = (refusal_is, refusal_last, rules)

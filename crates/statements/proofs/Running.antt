@@ -1,6 +1,9 @@
 -- The loop over the elements: what holds between two of them, and what each way out makes of it.
 use mathlib.Core.Path.{◌≡◌, refl, sym, ap, ◌∙◌, subst}
-use mathlib.Core.Bool.{false, false≢true}
+use lib.Dec.{leb}
+use borrow.Author.Tests.{leb-true}
+use Rattle.rules.proofs.Tables.Tests.{and_left}
+use mathlib.Core.Bool.{Bool, true, false, ◌&&◌, false≢true}
 use mathlib.Core.List.{List, [], ◌++◌, append-nil}
 use Prim.Native.Nat.{ℕ, ◌+◌, ◌<◌, ◌≤◌}
 use native.Mathlib.Omega.{arith}
@@ -24,7 +27,6 @@ use Rattle.elements.specs.declared.Element.{Element}
 use Rattle.elements.specs.declared.Element.TheVariants.{Name}
 use Rattle.elements.specs.declared.Found.{Found}
 use Rattle.elements.specs.declared.Found.TheVariants.{Next, Fault, Finish}
-use Rattle.rows.specs.declared.Row.{Row}
 use Rattle.rows.specs.declared.Row.TheVariants as rows
 use Rattle.statements.specs.Passes.{Refusal, Added, Sofar, AtStart, Reached, Concluded, is_accepted, is_refused, OnePass}
 use Rattle.steps.specs.States.{state_of}
@@ -66,11 +68,11 @@ ends_at h (found.ends a) k = rw (← k) (now (at_no_more h a))
 module _ {label : List ℕ} {q : machine.State} {o : rule.Opens} {at : ℕ} (h : is_end q ≡ false) where
   one_turn : {e : Element} {to : ℕ} {q' : machine.State} {o' : rule.Opens} {rs : List rule.Row} {z : Outcome} → NextAt label at (Next e to) →
       machine.step base strict q o (placed_of label e) ≡ machine.goes q' o' rs → Goes base q' o' to (drop to label) z → Goes base q o at (drop at label) (behind_rows rs z)
-  one_turn {to = to} (an_element {at = p} a b c n y k) e g =
-      steps_on h n (rw (← y) e) (omega (arith, part_length label at p (omega arith), part_length label p to c)) g
+  one_turn {to = to} {q' = q'} {o' = o'} {rs = rs} (an_element {at = p} a b c n y k) e g =
+      steps_on h n (subst (λ (u : rule.Placed). machine.step base strict q o u ≡ machine.goes q' o' rs) y e) (omega (arith, part_length label at p (omega arith), part_length label p to c)) g
 
   refuse_turn : {e : Element} {to c : ℕ} → NextAt label at (Next e to) → machine.step base strict q o (placed_of label e) ≡ machine.refuses c → Goes base q o at (drop at label) (refused c (place_of e))
-  refuse_turn (an_element {at = p} a b c n y k) e = halts_at h n (rw (← y) e) (omega (arith, k, part_length label at p (omega arith)))
+  refuse_turn {c = code} (an_element {at = p} a b c n y k) e = halts_at h n (subst (λ (u : rule.Placed). machine.step base strict q o u ≡ machine.refuses code) y e) (omega (arith, k, part_length label at p (omega arith)))
 
   fault_turn : {c p : ℕ} → NextAt label at (Fault c p) → Goes base q o at (drop at label) (refused c p)
   fault_turn {p = p} (a_fault a b n) = faults_at h n (omega (arith, part_length label at p (omega arith)))
@@ -160,6 +162,14 @@ noted {before = before} {n = n} s h e = record {
   };
   behind = omega arith;
 }
+
+-- the place behind, noted in this turn or before
+pub noted_here : {label before out : List ℕ} {t : State} {b : Blocks} {at n : ℕ} {c full : Cursor} (last : Bool) → Running label before out t b at n → (leb n (length out) && last) ≡ true →
+    (c.state ≡ t) × (c.blocks ≡ b) × (c.at ≡ at) × (c.n ≡ n) → full ≡ c → Noting label before out t b at n full
+noted_here last s h e q = rw q (noted s (leb-true _ _ (and_left _ _ h)) e)
+
+pub noted_before : {label before out : List ℕ} {t : State} {b : Blocks} {at n : ℕ} {c full : Cursor} → Noting label before out t b at n c → full ≡ c → Noting label before out t b at n full
+noted_before s q = rw q s
 
 found_at : {label : List ℕ} {at : ℕ} {f v : Found} → NextAt label at f → f ≡ v → NextAt label at v
 found_at {label} {at} x h = subst (λ (y : Found). NextAt label at y) h x

@@ -7,8 +7,6 @@ use native.Mathlib.Omega.{arith}
 use lib.Dec.{leb}
 use lib.ListN.{take-append-drop}
 use borrow.Author.Tests.{leb-false}
-use types.Run.{OneOf, miss}
-use denote.Enum.Declared.{tag_of, declared}
 use Rattle.rules.specs.Modes.{base}
 use Rattle.rules.specs.Grammar.{strict}
 use Rattle.rules.specs.Table.{encode, table}
@@ -18,11 +16,11 @@ use Rattle.elements.specs.Next.{placed_of}
 use Rattle.elements.specs.declared.Element.{Element}
 use Rattle.elements.specs.declared.Element.TheVariants.{Name}
 use Rattle.rows.specs.Rows.{deepest, row_of}
+use Rattle.rows.specs.declared.Kind.{Kind}
 use Rattle.rows.specs.declared.Row.{Row}
 use Rattle.rows.specs.declared.Row.TheVariants as rows
 use Rattle.rows.specs.declared.Kind as kind
 use Rattle.rows.specs.declared.Kind.TheVariants as kinds
-use Rattle.rows.specs.contracts.Row.{enum}
 use Rattle.steps.specs.States.{closing, state_of, full_in, is_full, first_state}
 use Rattle.steps.specs.Steps.{Given, nothing, one_row, stop, given, given_by, rows_of, Effect, stays, opens, closes, ends, row_effect, effect, answer_by, answer_of, Settles, Does}
 use Rattle.blocks.specs.Stack.{Block, block, rest, many, top_of, blocks_of, push_on, pop_off, opens_of}
@@ -39,26 +37,22 @@ use Rattle.blocks.proofs.Opened.{counted, no_top}
 
 -- ---- rows that leave the blocks alone
 
--- their numbers
-abbrev pub plain : List ℕ
-plain = 0 ∷ 1 ∷ 4 ∷ 5 ∷ 6 ∷ 7 ∷ 8 ∷ 9 ∷ 10 ∷ 11 ∷ 12 ∷ 13 ∷ []
-
-plain_row : (w : Row) → OneOf plain (tag_of (declared enum) w) → row_effect w ≡ stays
-plain_row (rows.Attribute a b) h = refl
-plain_row (rows.Pointer a b) h = refl
-plain_row (rows.Open k a b) h = absurd (miss plain 2 tt h)
-plain_row (rows.Close k) h = absurd (miss plain 3 tt h)
-plain_row (rows.Integer m n) h = refl
-plain_row (rows.Float x) h = refl
-plain_row (rows.Time x) h = refl
-plain_row (rows.Text a b) h = refl
-plain_row (rows.Symbol a b) h = refl
-plain_row (rows.Unit p a b m n) h = refl
-plain_row rows.Sequence h = refl
-plain_row rows.SequenceEnd h = refl
-plain_row rows.Set h = refl
-plain_row rows.SetEnd h = refl
-plain_row (rows.Last a) h = absurd (miss plain 14 tt h)
+plain_row : (w : Row) → ((k : ℕ) → w ≡ rows.Last k → ⊥) → ((k : Kind) (a b : ℕ) → w ≡ rows.Open k a b → ⊥) → ((k : Kind) → w ≡ rows.Close k → ⊥) → row_effect w ≡ stays
+plain_row (rows.Attribute a b) h i j = refl
+plain_row (rows.Pointer a b) h i j = refl
+plain_row (rows.Open k a b) h i j = absurd (i k a b refl)
+plain_row (rows.Close k) h i j = absurd (j k refl)
+plain_row (rows.Integer m n) h i j = refl
+plain_row (rows.Float x) h i j = refl
+plain_row (rows.Time x) h i j = refl
+plain_row (rows.Text a b) h i j = refl
+plain_row (rows.Symbol a b) h i j = refl
+plain_row (rows.Unit p a b m n) h i j = refl
+plain_row rows.Sequence h i j = refl
+plain_row rows.SequenceEnd h i j = refl
+plain_row rows.Set h i j = refl
+plain_row rows.SetEnd h i j = refl
+plain_row (rows.Last a) h i j = absurd (h a refl)
 
 -- ---- what a step gives, by the fields of its answer
 
@@ -170,8 +164,8 @@ module _ {label : List ℕ} {t : State} {b : Blocks} {e : Element} {w : Stepped}
   pub turn_nothing : Does label t (state_of label t) e w → Sound t b → w.gives ≡ gives.Nothing → Moves label t b e (given w) w.state b
   turn_nothing d s g = turn_plain d s (ap effect (gives_nothing w g))
 
-  pub turn_row : Does label t (state_of label t) e w → Sound t b → w.gives ≡ gives.One → OneOf plain (tag_of (declared enum) w.row) → Moves label t b e (given w) w.state b
-  turn_row d s g h = turn_plain d s (ap effect (gives_row w g refl) ∙ plain_row w.row h)
+  pub turn_row : Does label t (state_of label t) e w → Sound t b → w.gives ≡ gives.One → ((k : ℕ) → w.row ≡ rows.Last k → ⊥) → ((k : Kind) (a b : ℕ) → w.row ≡ rows.Open k a b → ⊥) → ((k : Kind) → w.row ≡ rows.Close k → ⊥) → Moves label t b e (given w) w.state b
+  turn_row d s g h i j = turn_plain d s (ap effect (gives_row w g refl) ∙ plain_row w.row h i j)
 
   -- the last row: END, outside all blocks
   pub turn_last : {a : ℕ} → Does label t (state_of label t) e w → Sound t b → w.gives ≡ gives.One → w.row ≡ rows.Last a →

@@ -1,0 +1,30 @@
+-- `passes::refusal` meets its contract.
+use Rattle.statements.proofs.Codes.{refusals}
+use Rattle.statements.proofs.passes.refusal.Goals as goal
+
+pub returns-in-2 : goal.returns-in-2
+returns-in-2 c = search refusals
+
+pub returns-in-3 : goal.returns-in-3
+returns-in-3 c = search refusals
+
+pub returns-in-4 : goal.returns-in-4
+returns-in-4 c = search refusals
+
+pub returns-in-5 : goal.returns-in-5
+returns-in-5 c = search refusals
+
+pub returns-in-6 : goal.returns-in-6
+returns-in-6 c = search refusals
+
+pub returns-in-7 : goal.returns-in-7
+returns-in-7 c = search refusals
+
+pub returns-in-8 : goal.returns-in-8
+returns-in-8 c = search refusals
+
+pub returns-in-9 : goal.returns-in-9
+returns-in-9 c = search refusals
+
+pub returns-in_default : goal.returns-in_default
+returns-in_default c = search refusals

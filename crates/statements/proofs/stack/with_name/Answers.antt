@@ -1,0 +1,9 @@
+-- The name in hand is the innermost block's, where there is one.
+use Rattle.statements.proofs.Opened.{stack}
+use Rattle.statements.proofs.stack.with_name.Goals as goal
+
+pub returns-then-d-eq0 : goal.returns-then-d-eq0
+returns-then-d-eq0 c = search stack
+
+pub returns : goal.returns
+returns c = search stack
