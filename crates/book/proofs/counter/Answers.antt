@@ -1,6 +1,5 @@
 -- `counter` meets its contract.
 use Rattle.book.proofs.Sessions.{sessions}
-use borrow.Author.Rules.{rules}
 use Rattle.book.proofs.counter.Goals as goal
 
 pub returns-in_default : goal.returns-in_default

@@ -1,7 +1,6 @@
 -- `refused` meets its contract.
 use mathlib.Core.Path.{refl}
 use Rattle.book.proofs.Answers.{said_is}
-use borrow.Author.Rules.{rules}
 use Rattle.book.proofs.refused.Goals as goal
 
 pub returns : goal.returns

@@ -1,7 +1,5 @@
 -- `start_time` meets its contract.
-use Prim.Native.Nat.{◌-◌}
-use lib.ListN.{length}
-use Rattle.book.proofs.Walk.{Ahead, walk_found, walk_closed, walk_ends, walks}
+use Rattle.book.proofs.Walk.{walk_found, walk_closed, walk_ends, walks}
 use Rattle.book.proofs.start_time.Goals as goal
 
 pub loop-at-init : goal.loop-at-init

@@ -1,7 +1,7 @@
 -- `start_time` meets its contract.
 use Prim.Native.Nat.{◌-◌}
 use lib.ListN.{length}
-use Rattle.book.proofs.Walk.{Ahead, walk_found, walk_closed, walk_ends, walks}
+use Rattle.book.proofs.Walk.{Ahead}
 use Rattle.book.proofs.start_time.Given as goal
 
 abbrev pub invariant-loop-at : goal.invariant-loop-at

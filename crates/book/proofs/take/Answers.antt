@@ -1,6 +1,5 @@
 -- `take` meets its contract.
 use Rattle.book.proofs.Answers.{take_full, take_refused, may_add, take_counted}
-use borrow.Author.Rules.{rules}
 use Rattle.book.proofs.take.Goals as goal
 
 pub returns-then-total-ge-FULL : goal.returns-then-total-ge-FULL

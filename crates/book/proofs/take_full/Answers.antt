@@ -1,7 +1,6 @@
 -- `take_full` meets its contract.
 use mathlib.Core.Path.{refl}
 use Rattle.book.proofs.Answers.{full_fits, full_refused, full_short, full_full}
-use borrow.Author.Rules.{rules}
 use Rattle.book.proofs.take_full.Goals as goal
 
 pub returns-then-code-eq0 : goal.returns-then-code-eq0

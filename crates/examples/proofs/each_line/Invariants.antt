@@ -1,7 +1,6 @@
 -- `each_line` meets its contract.
 use Prim.Native.Nat.{◌+◌, ◌-◌, ◌≤◌}
 use lib.ListN.{length}
-use borrow.Author.Rules.{rules}
 use Rattle.examples.proofs.each_line.Given as goal
 
 abbrev pub invariant-loop-at : goal.invariant-loop-at

@@ -1,6 +1,5 @@
 -- `dates::weekday` meets its contract.
 use Rattle.book.proofs.Weekdays.{by_arithmetic}
-use borrow.Author.Rules.{rules}
 use Rattle.book.proofs.dates.weekday.Goals as goal
 
 pub returns : goal.returns

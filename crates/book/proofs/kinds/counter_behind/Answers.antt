@@ -1,6 +1,5 @@
 -- `kinds::counter_behind` meets its contract.
 use Rattle.book.proofs.RowKinds.{behind}
-use borrow.Author.Rules.{rules}
 use Rattle.book.proofs.kinds.counter_behind.Goals as goal
 
 pub returns-then-byte_at-ne-MOMENT : goal.returns-then-byte_at-ne-MOMENT

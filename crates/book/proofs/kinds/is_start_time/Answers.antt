@@ -1,6 +1,5 @@
 -- `kinds::is_start_time` meets its contract.
 use Rattle.book.proofs.RowKinds.{behind}
-use borrow.Author.Rules.{rules}
 use Rattle.book.proofs.kinds.is_start_time.Goals as goal
 
 pub returns : goal.returns

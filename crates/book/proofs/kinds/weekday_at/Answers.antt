@@ -1,6 +1,5 @@
 -- `kinds::weekday_at` meets its contract.
 use Rattle.book.proofs.RowKinds.{behind}
-use borrow.Author.Rules.{rules}
 use Rattle.book.proofs.kinds.weekday_at.Goals as goal
 
 pub returns : goal.returns

@@ -1,7 +1,6 @@
 -- `escapes::line_end` meets its contract.
 use Prim.Native.Nat.{◌-◌, ◌≤◌}
 use lib.ListN.{length}
-use borrow.Author.Rules.{rules}
 use Rattle.examples.proofs.escapes.line_end.Given as goal
 
 abbrev pub invariant-loop-i : goal.invariant-loop-i

@@ -1,9 +1,7 @@
 -- `escapes::unescape` meets its contract.
 use Prim.Native.Nat.{◌+◌, ◌-◌, ◌≤◌}
 use mathlib.Core.Path.{◌≡◌}
-use native.Mathlib.Omega.{arith}
-use lib.ListN.{length, length-set}
-use borrow.Author.Rules.{rules}
+use lib.ListN.{length}
 use Rattle.examples.proofs.escapes.unescape.Given as goal
 
 abbrev pub invariant-loop-at : goal.invariant-loop-at

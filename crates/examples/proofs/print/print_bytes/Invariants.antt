@@ -1,7 +1,6 @@
 -- `print::print_bytes` meets its contract.
 use Prim.Native.Nat.{◌-◌, ◌≤◌}
 use lib.ListN.{length}
-use borrow.Author.Rules.{rules}
 use Rattle.examples.proofs.print.print_bytes.Given as goal
 
 abbrev pub invariant-loop-i : goal.invariant-loop-i

@@ -1,6 +1,5 @@
 -- `print::print_padded` meets its contract.
 use Prim.Native.Nat.{◌≤◌}
-use borrow.Author.Rules.{rules}
 use Rattle.examples.proofs.print.print_padded.Given as goal
 
 abbrev pub invariant-loop-power : goal.invariant-loop-power

@@ -1,6 +1,5 @@
 -- `anew::relabelled` meets its contract.
 use mathlib.Core.Path.{refl}
-use borrow.Author.Rules.{rules}
 use Rattle.relabel.proofs.Composed.{refused_reading, written_anew}
 use Rattle.relabel.proofs.anew.relabelled.Goals as goal
 
