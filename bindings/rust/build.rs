@@ -1,4 +1,4 @@
-//! Links libodl.a from ODL_LIB_DIR, or from where `rt staticlib odl` puts it.
+//! Links libodl.a from ODL_LIB_DIR, or from where `tools/build` puts it.
 
 use std::env;
 use std::path::{Path, PathBuf};
@@ -13,7 +13,7 @@ fn main() {
     println!("cargo:rerun-if-changed={}", library.display());
     let Ok(library) = library.canonicalize() else {
         eprintln!(
-            "{} is missing: run `rt staticlib odl` at the project's root, \
+            "{} is missing: run `tools/build` at the project's root, \
              or name the directory of libodl.a in ODL_LIB_DIR",
             library.display()
         );

@@ -20,7 +20,7 @@ fn program() -> Command {
     let program = directory.unwrap_or(root.join("target/bin")).join("relabel");
     assert!(
         program.is_file(),
-        "{} is missing: run `rt check relabel` at the project's root",
+        "{} is missing: run `tools/build` at the project's root",
         program.display()
     );
     if cfg!(target_arch = "x86_64") {

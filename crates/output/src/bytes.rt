@@ -15,6 +15,8 @@ pub fn put_byte(out: &mut [u8], b: u8) -> usize
     1
 }
 
+// Not inlined, and nor is the next: a copy of such a loop at each call would make a sixth of all code.
+#[inline(never)]
 pub fn put_bytes(out: &mut [u8], w: &[u8]) -> usize
     ensures { Puts w.now out.old out.new result }
 {
@@ -27,6 +29,7 @@ pub fn put_bytes(out: &mut [u8], w: &[u8]) -> usize
     w.len()
 }
 
+#[inline(never)]
 pub fn put_folded(out: &mut [u8], w: &[u8]) -> usize
     ensures { Puts (map fold w.now) out.old out.new result × (result ≡ length w.now) }
 {

@@ -29,7 +29,8 @@ pub enum Prior {
     Factor,
 }
 
-// What a row is to the row after it.
+// What a row is to the row after it. Not inlined: its table then has one byte for each kind of row.
+#[inline(never)]
 pub fn prior_of(row: Row) -> Prior
     ensures { PriorAfter row (prior_of result) }
 {

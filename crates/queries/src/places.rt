@@ -34,6 +34,8 @@ pub fn row_from(table: &[u8], row: usize) -> Got
     row_at(table, row)
 }
 
+// Not inlined: each copy would have a table of its own among the constant data.
+#[inline(never)]
 pub fn way_of(row: Row) -> Way
     ensures { result ≡ way_of (way (row_of row)) }
 {

@@ -55,7 +55,8 @@ pub fn whole(negative: bool, ds: &[u8]) -> Value
     Value::Integer(negative & (n != 0), n)
 }
 
-// The number of a span, or 10,000 where it is more, as no part of a date or time may be.
+// The number of a span, or 10,000 where it is more, as no part of a date or time may be. Not inlined: a date and time has seven.
+#[inline(never)]
 pub fn number_of(w: &[u8], span: Span) -> u64
     ensures { result ≡ min 10000 (number (on w.now span)) }
 {
