@@ -25,12 +25,14 @@
  * with its own room, book and results. Threads that share a book have to see to
  * it that they take turns, also for labels that are refused: every call stores
  * the book. A call needs no more than 64 KiB of stack; this is measured
- * (tests/c/stack.c: 21 KB at most), not proved.
+ * (tests/c/stack.c: 22 KB at most), not proved.
  *
  * Room on a board. For x86-64 the library has less than 46,000 bytes of code
  * and less than 2,300 bytes of constant data, and nothing that is written to.
- * It holds no arrays of constants: the constant data are the compiler's tables
- * for branches, and masks. `tests/c/constants LIBRARY` measures the bytes.
+ * It holds no arrays of numbers but the compiler's: the constant data are its
+ * tables for branches and for the kinds of rows, its masks, and the words and
+ * signs that are compared and written. `tests/c/constants LIBRARY` measures the
+ * bytes.
  *
  * Time. odl_read and odl_take take time in proportion to the label. The other
  * calls judge the whole table first, each time anew, so each takes time in
