@@ -18,7 +18,6 @@ use Rattle.elements.specs.declared.Element.TheVariants.{Name}
 use Rattle.steps.specs.declared.Awaited.TheVariants as await
 use Rattle.steps.specs.declared.State.{State}
 use Rattle.steps.specs.declared.Stepped.{Stepped}
-use Rattle.steps.proofs.Offers.{sorts_but_name}
 use Rattle.steps.proofs.Ways.{known, halts_known, no_name, within_limit, past_limit}
 
 named_by : (label u : List ℕ) (a b : ℕ) → u ≡ part label a b → map fold u ≡ name_at label a b
@@ -46,4 +45,4 @@ module _ (x y : ℕ) {label : List ℕ} {t : State} {e : Element} {r : Stepped} 
       halts_known s g
       (λ bs v. ap (machine.judge strict) (sym (past_limit (machine.name_discrete (name_at label a b) (name_at label x y)) _ _ (two_names label u w a b x y p.0 q.0 (sym d ∙ h)))))
 
-pub ruleset closings = (closes_same, closes_other, no_name, sorts_but_name, rules)
+pub ruleset closings = (closes_same, closes_other, no_name, rules)

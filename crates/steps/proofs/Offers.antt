@@ -6,8 +6,6 @@ use mathlib.Core.Bool.{Bool, true, cond}
 use mathlib.Core.List.{List, [], ◌∷◌}
 use lib.Dec.{eqb, ltb}
 use borrow.Author.Tests.{eq-eqb, ne_eqb, ltb-true}
-use types.Run.{OneOf, hit as among, miss}
-use denote.Enum.Declared.{tag_of, declared}
 use Rattle.rules.specs.Data as rule
 use Rattle.rules.specs.Data.{Fixed-discrete}
 use Rattle.rules.proofs.Machine.Statements.{Entry, ◌⇒◌, Next, never, Offer, find, chosen, dispatch, also, only, a_name, a_whole}
@@ -17,7 +15,6 @@ use Rattle.elements.specs.Next.{placed_of}
 use Rattle.elements.specs.declared.Element.{Element}
 use Rattle.elements.specs.declared.Element.TheVariants.{Name, The, End, Integer, Based, Float, Time, Text, Symbol}
 use Rattle.words.specs.declared.Fixed as code
-use Rattle.elements.specs.contracts.Element.{enum}
 
 -- the entry of a number
 abbrev pub look : List Entry → ℕ → Next
@@ -110,58 +107,26 @@ none_taken label (Time x a b) = refl
 none_taken label (Text a b) = refl
 none_taken label (Symbol a b) = refl
 
--- ---- the sorts that are left, by what the element is not
+-- ---- what an element is not
 
-pub sorts_but_word : (e : Element) → ((k : code.Fixed) (a b : ℕ) → e ≡ The k a b → ⊥) → OneOf (0 ∷ 2 ∷ 3 ∷ 4 ∷ 5 ∷ 6 ∷ 7 ∷ 8 ∷ []) (tag_of (declared enum) e)
-sorts_but_word (Name a b) h = among (0 ∷ 2 ∷ 3 ∷ 4 ∷ 5 ∷ 6 ∷ 7 ∷ 8 ∷ []) 0 tt
-sorts_but_word (The k a b) h = absurd (h k a b refl)
-sorts_but_word (End v a b) h = among (0 ∷ 2 ∷ 3 ∷ 4 ∷ 5 ∷ 6 ∷ 7 ∷ 8 ∷ []) 2 tt
-sorts_but_word (Integer m v a b) h = among (0 ∷ 2 ∷ 3 ∷ 4 ∷ 5 ∷ 6 ∷ 7 ∷ 8 ∷ []) 3 tt
-sorts_but_word (Based m v a b) h = among (0 ∷ 2 ∷ 3 ∷ 4 ∷ 5 ∷ 6 ∷ 7 ∷ 8 ∷ []) 4 tt
-sorts_but_word (Float x a b) h = among (0 ∷ 2 ∷ 3 ∷ 4 ∷ 5 ∷ 6 ∷ 7 ∷ 8 ∷ []) 5 tt
-sorts_but_word (Time x a b) h = among (0 ∷ 2 ∷ 3 ∷ 4 ∷ 5 ∷ 6 ∷ 7 ∷ 8 ∷ []) 6 tt
-sorts_but_word (Text a b) h = among (0 ∷ 2 ∷ 3 ∷ 4 ∷ 5 ∷ 6 ∷ 7 ∷ 8 ∷ []) 7 tt
-sorts_but_word (Symbol a b) h = among (0 ∷ 2 ∷ 3 ∷ 4 ∷ 5 ∷ 6 ∷ 7 ∷ 8 ∷ []) 8 tt
+abbrev pub NoName : Element → Type 0
+NoName e = (a b : ℕ) → e ≡ Name a b → ⊥
 
-pub sorts_but_name : (e : Element) → ((a b : ℕ) → e ≡ Name a b → ⊥) → OneOf (1 ∷ 2 ∷ 3 ∷ 4 ∷ 5 ∷ 6 ∷ 7 ∷ 8 ∷ []) (tag_of (declared enum) e)
-sorts_but_name (Name a b) h = absurd (h a b refl)
-sorts_but_name (The k a b) h = among (1 ∷ 2 ∷ 3 ∷ 4 ∷ 5 ∷ 6 ∷ 7 ∷ 8 ∷ []) 1 tt
-sorts_but_name (End v a b) h = among (1 ∷ 2 ∷ 3 ∷ 4 ∷ 5 ∷ 6 ∷ 7 ∷ 8 ∷ []) 2 tt
-sorts_but_name (Integer m v a b) h = among (1 ∷ 2 ∷ 3 ∷ 4 ∷ 5 ∷ 6 ∷ 7 ∷ 8 ∷ []) 3 tt
-sorts_but_name (Based m v a b) h = among (1 ∷ 2 ∷ 3 ∷ 4 ∷ 5 ∷ 6 ∷ 7 ∷ 8 ∷ []) 4 tt
-sorts_but_name (Float x a b) h = among (1 ∷ 2 ∷ 3 ∷ 4 ∷ 5 ∷ 6 ∷ 7 ∷ 8 ∷ []) 5 tt
-sorts_but_name (Time x a b) h = among (1 ∷ 2 ∷ 3 ∷ 4 ∷ 5 ∷ 6 ∷ 7 ∷ 8 ∷ []) 6 tt
-sorts_but_name (Text a b) h = among (1 ∷ 2 ∷ 3 ∷ 4 ∷ 5 ∷ 6 ∷ 7 ∷ 8 ∷ []) 7 tt
-sorts_but_name (Symbol a b) h = among (1 ∷ 2 ∷ 3 ∷ 4 ∷ 5 ∷ 6 ∷ 7 ∷ 8 ∷ []) 8 tt
+abbrev pub NoWord : Element → Type 0
+NoWord e = (k : code.Fixed) (a b : ℕ) → e ≡ The k a b → ⊥
 
-pub sorts_but_whole : (e : Element) → ((m : Bool) (v a b : ℕ) → e ≡ Integer m v a b → ⊥) → OneOf (0 ∷ 1 ∷ 2 ∷ 4 ∷ 5 ∷ 6 ∷ 7 ∷ 8 ∷ []) (tag_of (declared enum) e)
-sorts_but_whole (Name a b) h = among (0 ∷ 1 ∷ 2 ∷ 4 ∷ 5 ∷ 6 ∷ 7 ∷ 8 ∷ []) 0 tt
-sorts_but_whole (The k a b) h = among (0 ∷ 1 ∷ 2 ∷ 4 ∷ 5 ∷ 6 ∷ 7 ∷ 8 ∷ []) 1 tt
-sorts_but_whole (End v a b) h = among (0 ∷ 1 ∷ 2 ∷ 4 ∷ 5 ∷ 6 ∷ 7 ∷ 8 ∷ []) 2 tt
-sorts_but_whole (Integer m v a b) h = absurd (h m v a b refl)
-sorts_but_whole (Based m v a b) h = among (0 ∷ 1 ∷ 2 ∷ 4 ∷ 5 ∷ 6 ∷ 7 ∷ 8 ∷ []) 4 tt
-sorts_but_whole (Float x a b) h = among (0 ∷ 1 ∷ 2 ∷ 4 ∷ 5 ∷ 6 ∷ 7 ∷ 8 ∷ []) 5 tt
-sorts_but_whole (Time x a b) h = among (0 ∷ 1 ∷ 2 ∷ 4 ∷ 5 ∷ 6 ∷ 7 ∷ 8 ∷ []) 6 tt
-sorts_but_whole (Text a b) h = among (0 ∷ 1 ∷ 2 ∷ 4 ∷ 5 ∷ 6 ∷ 7 ∷ 8 ∷ []) 7 tt
-sorts_but_whole (Symbol a b) h = among (0 ∷ 1 ∷ 2 ∷ 4 ∷ 5 ∷ 6 ∷ 7 ∷ 8 ∷ []) 8 tt
+abbrev pub NoEnd : Element → Type 0
+NoEnd e = (v : Bool) (a b : ℕ) → e ≡ End v a b → ⊥
 
-pub sorts_but_beginners : (e : Element) → ((a b : ℕ) → e ≡ Name a b → ⊥) → ((k : code.Fixed) (a b : ℕ) → e ≡ The k a b → ⊥) → ((v : Bool) (a b : ℕ) → e ≡ End v a b → ⊥) → OneOf (3 ∷ 4 ∷ 5 ∷ 6 ∷ 7 ∷ 8 ∷ []) (tag_of (declared enum) e)
-sorts_but_beginners (Name a b) h i j = absurd (h a b refl)
-sorts_but_beginners (The k a b) h i j = absurd (i k a b refl)
-sorts_but_beginners (End v a b) h i j = absurd (j v a b refl)
-sorts_but_beginners (Integer m v a b) h i j = among (3 ∷ 4 ∷ 5 ∷ 6 ∷ 7 ∷ 8 ∷ []) 3 tt
-sorts_but_beginners (Based m v a b) h i j = among (3 ∷ 4 ∷ 5 ∷ 6 ∷ 7 ∷ 8 ∷ []) 4 tt
-sorts_but_beginners (Float x a b) h i j = among (3 ∷ 4 ∷ 5 ∷ 6 ∷ 7 ∷ 8 ∷ []) 5 tt
-sorts_but_beginners (Time x a b) h i j = among (3 ∷ 4 ∷ 5 ∷ 6 ∷ 7 ∷ 8 ∷ []) 6 tt
-sorts_but_beginners (Text a b) h i j = among (3 ∷ 4 ∷ 5 ∷ 6 ∷ 7 ∷ 8 ∷ []) 7 tt
-sorts_but_beginners (Symbol a b) h i j = among (3 ∷ 4 ∷ 5 ∷ 6 ∷ 7 ∷ 8 ∷ []) 8 tt
+abbrev pub NoWhole : Element → Type 0
+NoWhole e = (m : Bool) (v a b : ℕ) → e ≡ Integer m v a b → ⊥
 
 -- ---- sorts without a number
 
 -- an element of another sort has no number
-pub no_sign : (e : Element) → OneOf (0 ∷ 2 ∷ 3 ∷ 4 ∷ 5 ∷ 6 ∷ 7 ∷ 8 ∷ []) (tag_of (declared enum) e) → 0 ≡ sign_of e
+pub no_sign : (e : Element) → NoWord e → 0 ≡ sign_of e
 unfolding sign_of
-no_sign (The k a b) h = absurd (miss (0 ∷ 2 ∷ 3 ∷ 4 ∷ 5 ∷ 6 ∷ 7 ∷ 8 ∷ []) 1 tt h)
+no_sign (The k a b) h = absurd (h k a b refl)
 no_sign (Name a b) h = refl
 no_sign (End v a b) h = refl
 no_sign (Integer m v a b) h = refl
@@ -191,8 +156,8 @@ pass_all (j ⇒ n ∷ l) label e h = pass (only l) label e j n h.0 ∙ pass_all 
 
 -- ---- offers of one sort of element
 
-pub not_name : (f : rule.Name → rule.Span → Next) (label : List ℕ) (e : Element) → OneOf (1 ∷ 2 ∷ 3 ∷ 4 ∷ 5 ∷ 6 ∷ 7 ∷ 8 ∷ []) (tag_of (declared enum) e) → dispatch (a_name f) (placed_of label e) ≡ never
-not_name f label (Name a b) h = absurd (miss (1 ∷ 2 ∷ 3 ∷ 4 ∷ 5 ∷ 6 ∷ 7 ∷ 8 ∷ []) 0 tt h)
+pub not_name : (f : rule.Name → rule.Span → Next) (label : List ℕ) (e : Element) → NoName e → dispatch (a_name f) (placed_of label e) ≡ never
+not_name f label (Name a b) h = absurd (h a b refl)
 not_name f label (The k a b) h = refl
 not_name f label (End v a b) h = refl
 not_name f label (Integer m v a b) h = refl
@@ -202,8 +167,8 @@ not_name f label (Time x a b) h = refl
 not_name f label (Text a b) h = refl
 not_name f label (Symbol a b) h = refl
 
-pub not_whole : (f : rule.Whole → rule.Span → Next) (label : List ℕ) (e : Element) → OneOf (0 ∷ 1 ∷ 2 ∷ 4 ∷ 5 ∷ 6 ∷ 7 ∷ 8 ∷ []) (tag_of (declared enum) e) → dispatch (a_whole f) (placed_of label e) ≡ never
-not_whole f label (Integer m v a b) h = absurd (miss (0 ∷ 1 ∷ 2 ∷ 4 ∷ 5 ∷ 6 ∷ 7 ∷ 8 ∷ []) 3 tt h)
+pub not_whole : (f : rule.Whole → rule.Span → Next) (label : List ℕ) (e : Element) → NoWhole e → dispatch (a_whole f) (placed_of label e) ≡ never
+not_whole f label (Integer m v a b) h = absurd (h m v a b refl)
 not_whole f label (Name a b) h = refl
 not_whole f label (The k a b) h = refl
 not_whole f label (End v a b) h = refl

@@ -10,12 +10,9 @@ use Rattle.rules.specs.Data as rule
 use Rattle.rules.specs.Data.{depth}
 use Rattle.rules.proofs.Machine.Statements.{judge, dispatch, offers, a_statement, Entry, ◌⇒◌, Next, never, Offer}
 use borrow.Author.Rules.{rules}
-use types.Run.{OneOf, miss}
 use native.Mathlib.Decide.{dec_lt}
 use borrow.Author.Tests.{leb-true, leb-false}
 use native.Mathlib.Omega.{arith}
-use denote.Enum.Declared.{tag_of, declared}
-use Rattle.elements.specs.contracts.Element.{enum}
 use Rattle.steps.proofs.Ways.{known, hits, refused, halts_known, within_limit, past_limit}
 use Rattle.steps.specs.Signs.{sign_of, open_code, Word, a_word}
 use Rattle.elements.specs.Next.{placed_of}
@@ -34,7 +31,7 @@ use Rattle.blocks.specs.declared.Top as top
 use Rattle.blocks.specs.declared.Top.TheVariants as tops
 use Rattle.steps.specs.declared.State.{State}
 use Rattle.steps.specs.declared.Stepped.{Stepped}
-use Rattle.steps.proofs.Offers.{pass, keys, Avoids, sorts_but_beginners}
+use Rattle.steps.proofs.Offers.{pass, keys, Avoids, NoName, NoWord, NoEnd}
 
 -- the cases of the open blocks
 by_blocks : (P : List Block → Type 0) → P [] → ((a b : ℕ) (bs : List Block) → P (block kinds.Object a b ∷ bs)) → ((a b : ℕ) (bs : List Block) → P (block kinds.Group a b ∷ bs)) → (bs : List Block) → P bs
@@ -135,39 +132,25 @@ is_open tops.Outside = false
 is_open tops.Object = true
 is_open tops.Group = true
 
-not_statement : (f : rule.Name → rule.Span → Next) (g : Bool → rule.Span → Next) (l : List Entry) (label : List ℕ) (e : Element) → OneOf (3 ∷ 4 ∷ 5 ∷ 6 ∷ 7 ∷ 8 ∷ []) (tag_of (declared enum) e) → dispatch (a_statement f g l) (placed_of label e) ≡ never
-not_statement f g l label (Name a b) h = absurd (miss (3 ∷ 4 ∷ 5 ∷ 6 ∷ 7 ∷ 8 ∷ []) 0 tt h)
-not_statement f g l label (The k a b) h = absurd (miss (3 ∷ 4 ∷ 5 ∷ 6 ∷ 7 ∷ 8 ∷ []) 1 tt h)
-not_statement f g l label (End v a b) h = absurd (miss (3 ∷ 4 ∷ 5 ∷ 6 ∷ 7 ∷ 8 ∷ []) 2 tt h)
-not_statement f g l label (Integer m v a b) h = refl
-not_statement f g l label (Based m v a b) h = refl
-not_statement f g l label (Float x a b) h = refl
-not_statement f g l label (Time x a b) h = refl
-not_statement f g l label (Text a b) h = refl
-not_statement f g l label (Symbol a b) h = refl
-
-tagged : (e : Element) → tag_of (declared enum) e ≡ 1 → Word e
-tagged (Name a b) h = absurd (omega arith)
-tagged (The k a b) h = a_word
-tagged (End v a b) h = absurd (omega arith)
-tagged (Integer m v a b) h = absurd (omega arith)
-tagged (Based m v a b) h = absurd (omega arith)
-tagged (Float x a b) h = absurd (omega arith)
-tagged (Time x a b) h = absurd (omega arith)
-tagged (Text a b) h = absurd (omega arith)
-tagged (Symbol a b) h = absurd (omega arith)
+not_statement : (f : rule.Name → rule.Span → Next) (g : Bool → rule.Span → Next) (l : List Entry) (label : List ℕ) (e : Element) → NoName e → NoWord e → NoEnd e → dispatch (a_statement f g l) (placed_of label e) ≡ never
+not_statement f g l label (Name a b) h i j = absurd (h a b refl)
+not_statement f g l label (The k a b) h i j = absurd (i k a b refl)
+not_statement f g l label (End v a b) h i j = absurd (j v a b refl)
+not_statement f g l label (Integer m v a b) h i j = refl
+not_statement f g l label (Based m v a b) h i j = refl
+not_statement f g l label (Float x a b) h i j = refl
+not_statement f g l label (Time x a b) h i j = refl
+not_statement f g l label (Text a b) h i j = refl
+not_statement f g l label (Symbol a b) h i j = refl
 
 pub the_word : {e : Element} {k : fixed.Fixed} {a b : ℕ} → e ≡ The k a b → Word e
 the_word h = rw h a_word
 
-pub is_word : {e : Element} → tag_of (declared enum) e ≡ 1 → Word e
-is_word {e} h = tagged e h
-
 module _ {label : List ℕ} {t : State} {e : Element} {r : Stepped} where
-  pub no_statement : r ≡ giving t (stop 6) → OneOf (3 ∷ 4 ∷ 5 ∷ 6 ∷ 7 ∷ 8 ∷ []) (tag_of (declared enum) e) → Does label t machine.at_semicolon e r
-  no_statement g h = refused g (by_blocks _ (λ v. not_statement (taken label []).names (taken label []).ends (taken label []).fixed label e h)
-      (λ a b bs v. not_statement (taken label (block kinds.Object a b ∷ bs)).names (taken label (block kinds.Object a b ∷ bs)).ends (taken label (block kinds.Object a b ∷ bs)).fixed label e h)
-      (λ a b bs v. not_statement (taken label (block kinds.Group a b ∷ bs)).names (taken label (block kinds.Group a b ∷ bs)).ends (taken label (block kinds.Group a b ∷ bs)).fixed label e h))
+  pub no_statement : r ≡ giving t (stop 6) → NoName e → NoWord e → NoEnd e → Does label t machine.at_semicolon e r
+  no_statement g h i j = refused g (by_blocks _ (λ v. not_statement (taken label []).names (taken label []).ends (taken label []).fixed label e h i j)
+      (λ a b bs v. not_statement (taken label (block kinds.Object a b ∷ bs)).names (taken label (block kinds.Object a b ∷ bs)).ends (taken label (block kinds.Object a b ∷ bs)).fixed label e h i j)
+      (λ a b bs v. not_statement (taken label (block kinds.Group a b ∷ bs)).names (taken label (block kinds.Group a b ∷ bs)).ends (taken label (block kinds.Group a b ∷ bs)).fixed label e h i j))
 
   pub ends_set_off : {s : State} {off : Bool} {a b : ℕ} → e ≡ End off a b → t.top ≡ tops.Outside → off ≡ true → r ≡ giving s (one_row (rows.Last b)) → s ≡ awaiting t await.Ended → Does label t machine.at_semicolon e r
   ends_set_off y h o z i =
@@ -183,4 +166,4 @@ module _ {label : List ℕ} {t : State} {e : Element} {r : Stepped} where
   ends_inside s h o g =
       halts_known s g (by_blocks _ (λ v. absurd (false≢true (ap is_open (sym v.top ∙ h) ∙ o))) (λ a b bs v. refl) (λ a b bs v. refl))
 
-pub ruleset begins = (begins_name, begins_pointer, closes_object, closes_group, opens_too_deep, opens_block, no_word_outside, no_word_object, no_word_group, no_statement, ends_set_off, ends_loose, ends_inside, is_word, the_word, sorts_but_beginners, rules)
+pub ruleset begins = (begins_name, begins_pointer, closes_object, closes_group, opens_too_deep, opens_block, no_word_outside, no_word_object, no_word_group, no_statement, ends_set_off, ends_loose, ends_inside, the_word, rules)

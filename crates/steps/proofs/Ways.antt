@@ -31,7 +31,7 @@ use Rattle.rows.specs.declared.Nest.TheVariants as nests
 use Rattle.steps.specs.declared.Awaited.{Awaited}
 use Rattle.steps.specs.declared.State.{State}
 use Rattle.steps.specs.declared.Stepped.{Stepped}
-use Rattle.steps.proofs.Offers.{look, hit, pass, none_taken, keys, Avoids, pass_all, not_name, not_whole, sorts_but_name, sorts_but_whole}
+use Rattle.steps.proofs.Offers.{look, hit, pass, none_taken, keys, Avoids, pass_all, not_name, not_whole, NoName, NoWhole}
 
 module _ {label : List ℕ} {t : State} {q : machine.State} {e : Element} where
   made : (s : State) (g : Given) → Leaves label t e s g →
@@ -72,12 +72,12 @@ module _ {label : List ℕ} {t : State} {q : machine.State} {e : Element} {r : S
       refused g (λ bs v. ap (λ (o : Offer). dispatch o (placed_of label e)) (f bs)
       ∙ pass_all (offers base q (opens_of label bs)).fixed label e (subst (λ (l : List ℕ). Avoids (sign_of e) l) (k bs) (subst (λ (n : ℕ). Avoids n (keys (offers base q rule.outside).fixed)) s a)))
 
-  pub no_name : r ≡ giving t (stop 6) → OneOf (1 ∷ 2 ∷ 3 ∷ 4 ∷ 5 ∷ 6 ∷ 7 ∷ 8 ∷ []) (tag_of (declared enum) e) →
+  pub no_name : r ≡ giving t (stop 6) → NoName e →
       ((bs : List Block) → offers base q (opens_of label bs) ≡ a_name (offers base q (opens_of label bs)).names) →
       Does label t q e r
   no_name g h f = refused g (λ bs v. ap (λ (o : Offer). dispatch o (placed_of label e)) (f bs) ∙ not_name (offers base q (opens_of label bs)).names label e h)
 
-  pub no_whole : r ≡ giving t (stop 6) → OneOf (0 ∷ 1 ∷ 2 ∷ 4 ∷ 5 ∷ 6 ∷ 7 ∷ 8 ∷ []) (tag_of (declared enum) e) →
+  pub no_whole : r ≡ giving t (stop 6) → NoWhole e →
       ((bs : List Block) → offers base q (opens_of label bs) ≡ a_whole (offers base q (opens_of label bs)).integers) →
       Does label t q e r
   no_whole g h f = refused g (λ bs v. ap (λ (o : Offer). dispatch o (placed_of label e)) (f bs) ∙ not_whole (offers base q (opens_of label bs)).integers label e h)
@@ -231,8 +231,8 @@ pub opened_name : {label : List ℕ} {t : State} {e : Element} {r : Stepped} {s 
     Does label t (machine.at_opened (kind_of t.kind)) e r
 opened_name {t = t} h y z i = known y z i (record { room = λ x. tt; settles = (y, in_room t h, refl) }) (λ bs v. refl)
 
-pub ruleset ways = (known, hits, misses, no_name, no_whole, sorts_but_name, sorts_but_whole, passes, passes2, scalar_known, scalar_signed, no_scalar, after_end, too_large, in_limit, rules)
+pub ruleset ways = (known, hits, misses, no_name, no_whole, passes, passes2, scalar_known, scalar_signed, no_scalar, after_end, too_large, in_limit, rules)
 
-pub ruleset openings = (opener_equals, opened_name, misses, no_name, sorts_but_name, rules)
+pub ruleset openings = (opener_equals, opened_name, misses, no_name, rules)
 
 pub ruleset unmet = (misses, rules)
