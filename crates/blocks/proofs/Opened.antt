@@ -12,19 +12,18 @@ use Rattle.rules.specs.Table.{open_kind}
 use Rattle.rows.specs.Rows.{kind_of}
 use Rattle.rows.specs.declared.Kind as kind
 use Rattle.rows.specs.declared.Kind.TheVariants as kinds
-use Rattle.blocks.specs.Stack.{Block, block, blocks_in, rest, many, top_of, top_in, start_of, end_of, kind_at, push_on, pop_off}
+use Rattle.blocks.specs.Stack.{Block, block, blocks_in, rest, many, top_of, start_of, end_of, kind_at, push_on, pop_off}
 use Rattle.blocks.specs.declared.Blocks.{Blocks}
-use Rattle.blocks.specs.declared.Top as top
-use Rattle.blocks.specs.declared.Top.TheVariants as tops
+use Rattle.std.specs.Prelude.{Option, None, Some}
 
 kind_back_lem : (k : kind.Kind) → kind_at (open_kind (kind_of k)) ≡ k
 kind_back_lem kinds.Object = refl
 kind_back_lem kinds.Group = refl
 
-pub is_group : (n : ℕ) → n ≡ 5 → tops.Group ≡ top_in (kind_at n)
+pub is_group : (n : ℕ) → n ≡ 5 → kinds.Group ≡ kind_at n
 is_group n h = rw (eq-eqb n 5 h)
 
-pub is_object : (n : ℕ) → (n ≡ 5 → ⊥) → tops.Object ≡ top_in (kind_at n)
+pub is_object : (n : ℕ) → (n ≡ 5 → ⊥) → kinds.Object ≡ kind_at n
 is_object n h = rw (ne_eqb n 5 h)
 
 module _ (s e k : List ℕ) (d a b x : ℕ) where
@@ -68,7 +67,7 @@ nothing_open s e k (suc n) h = absurd (omega arith)
 pub unpopped : (s e k : List ℕ) (d : ℕ) → d ≤ 0 → blocks_in s e k d ≡ rest (blocks_in s e k d)
 unpopped s e k d h = let q : blocks_in s e k d ≡ [] = nothing_open s e k d (omega arith) in rw q
 
-pub no_top : (s e k : List ℕ) (d : ℕ) → d ≡ 0 → tops.Outside ≡ top_of (blocks_in s e k d)
+pub no_top : (s e k : List ℕ) (d : ℕ) → d ≡ 0 → None ≡ top_of (blocks_in s e k d)
 no_top s e k d h = rw (nothing_open s e k d h)
 
 pub no_start : (s e k : List ℕ) (d : ℕ) → d ≡ 0 → 0 ≡ start_of (blocks_in s e k d)
@@ -83,8 +82,8 @@ unfolding blocks_in
 innermost s e k zero h = absurd (h refl)
 innermost s e k (suc n) h = let q : suc n - 1 ≡ n = omega arith in rw q
 
-pub some_top : (s e k : List ℕ) (d : ℕ) (r : top.Top) → r ≡ top_in (kind_at (get_or k (d - 1) 0)) → (d ≡ 0 → ⊥) → r ≡ top_of (blocks_in s e k d)
-some_top s e k d r g h = g ∙ sym (ap top_of (innermost s e k d h))
+pub some_top : (s e k : List ℕ) (d : ℕ) (r : kind.Kind) → r ≡ kind_at (get_or k (d - 1) 0) → (d ≡ 0 → ⊥) → Some r ≡ top_of (blocks_in s e k d)
+some_top s e k d r g h = ap Some g ∙ sym (ap top_of (innermost s e k d h))
 
 pub some_start : (s e k : List ℕ) (d r : ℕ) → r ≡ get_or s (d - 1) 0 → (d ≡ 0 → ⊥) → r ≡ start_of (blocks_in s e k d)
 some_start s e k d r g h = g ∙ sym (ap start_of (innermost s e k d h))

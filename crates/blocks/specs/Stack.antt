@@ -1,13 +1,11 @@
 -- The open blocks as a list, the innermost first: kind, start and end of the name. Terms of private contracts.
-use Rattle.std.specs.Prelude.{ℕ, zero, suc, ◌+◌, ◌-◌, cond, List, [], ◌∷◌, eqb, get_or, set, replicate}
+use Rattle.std.specs.Prelude.{ℕ, zero, suc, ◌+◌, ◌-◌, cond, Option, None, Some, List, [], ◌∷◌, eqb, get_or, set, replicate}
 use Rattle.rules.specs.Data as rule
 use Rattle.rules.specs.Table.{open_kind}
 use Rattle.classes.specs.Places.{name_at}
 use Rattle.rows.specs.Rows.{kind_of, deepest}
 use Rattle.rows.specs.declared.Kind as kind
 use Rattle.rows.specs.declared.Kind.TheVariants as kinds
-use Rattle.blocks.specs.declared.Top as top
-use Rattle.blocks.specs.declared.Top.TheVariants as tops
 use Rattle.blocks.specs.declared.Blocks.{Blocks}
 
 -- kind, start and end of the name
@@ -19,15 +17,10 @@ abbrev pub many : List Block → ℕ
 many [] = 0
 many (b ∷ bs) = suc (many bs)
 
--- a block of this kind, innermost
-abbrev pub top_in : kind.Kind → top.Top
-top_in kinds.Object = tops.Object
-top_in kinds.Group = tops.Group
-
--- the innermost block, if any
-abbrev pub top_of : List Block → top.Top
-top_of [] = tops.Outside
-top_of (block k a b ∷ bs) = top_in k
+-- the kind of the innermost block, if any
+abbrev pub top_of : List Block → Option kind.Kind
+top_of [] = None
+top_of (block k a b ∷ bs) = Some k
 
 -- where its name starts, and 0 outside all blocks
 abbrev pub start_of : List Block → ℕ

@@ -3,7 +3,7 @@
 #![tactic(auto)]
 
 ghost use Rattle.std.specs.Prelude.{◌≡◌, [], ◌∷◌, ◌+◌, ◌<◌, ◌≤◌};
-ghost use Rattle.blocks.specs.Stack.{block, kind_at, top_in, top_of, start_of, end_of, rest, blocks_of, no_blocks, push_on, pop_off};
+ghost use Rattle.blocks.specs.Stack.{block, kind_at, top_of, start_of, end_of, rest, blocks_of, no_blocks, push_on, pop_off};
 ghost use Rattle.rows.specs.Rows.{deepest};
 
 use rows::{DEEPEST, Kind, OPEN_GROUP, open_kind};
@@ -17,14 +17,6 @@ pub struct Blocks {
     pub depth: usize,
 }
 
-// The innermost open block, if any.
-#[derive(Clone, Copy)]
-pub enum Top {
-    Outside,
-    Object,
-    Group,
-}
-
 pub fn no_blocks() -> Blocks
     ensures { (blocks_of result ≡ []) × (result.depth ≡ 0) × (result ≡ no_blocks) }
 {
@@ -36,26 +28,14 @@ pub fn no_blocks() -> Blocks
     }
 }
 
-fn top_kind(n: u8) -> Top
-    ensures { result ≡ top_in (kind_at n) }
+fn kind_of(n: u8) -> Kind
+    ensures { result ≡ kind_at n }
 {
     if n == OPEN_GROUP {
-        return Top::Group;
+        Kind::Group
+    } else {
+        Kind::Object
     }
-    Top::Object
-}
-
-fn small(a: usize) -> u16
-    requires { a < 65536 }
-    ensures { result ≡ a }
-{
-    a as u16
-}
-
-fn large(a: u16) -> usize
-    ensures { result ≡ a }
-{
-    a as usize
 }
 
 pub fn push(b: Blocks, k: Kind, x: usize, y: usize) -> Blocks
@@ -64,8 +44,8 @@ pub fn push(b: Blocks, k: Kind, x: usize, y: usize) -> Blocks
 {
     let mut r = b;
     let d = b.depth;
-    r.starts[d] = small(x);
-    r.ends[d] = small(y);
+    r.starts[d] = x as u16;
+    r.ends[d] = y as u16;
     r.kinds[d] = open_kind(k);
     r.depth = d + 1;
     r
@@ -81,37 +61,27 @@ pub fn pop(b: Blocks) -> Blocks
     r
 }
 
-pub fn top_of(b: Blocks) -> Top
+// The kind of the innermost open block, if any.
+pub fn top_of(b: Blocks) -> Option<Kind>
     requires { b.depth ≤ deepest }
     ensures { result ≡ top_of (blocks_of b) }
 {
     let d = b.depth;
     if d == 0 {
-        return Top::Outside;
+        return None;
     }
-    top_kind(b.kinds[d - 1])
+    Some(kind_of(b.kinds[d - 1]))
 }
 
-// Where the innermost block's name starts, and 0 outside all blocks.
-pub fn name_start(b: Blocks) -> usize
+// Where the innermost block's name starts and ends, and 0 for both outside all blocks.
+pub fn name_of(b: Blocks) -> (usize, usize)
     requires { b.depth ≤ deepest }
-    ensures { result ≡ start_of (blocks_of b) }
+    ensures start { result.0 ≡ start_of (blocks_of b) }
+    ensures end { result.1 ≡ end_of (blocks_of b) }
 {
     let d = b.depth;
     if d == 0 {
-        return 0;
+        return (0, 0);
     }
-    large(b.starts[d - 1])
-}
-
-// Where it ends.
-pub fn name_end(b: Blocks) -> usize
-    requires { b.depth ≤ deepest }
-    ensures { result ≡ end_of (blocks_of b) }
-{
-    let d = b.depth;
-    if d == 0 {
-        return 0;
-    }
-    large(b.ends[d - 1])
+    (usize::from(b.starts[d - 1]), usize::from(b.ends[d - 1]))
 }

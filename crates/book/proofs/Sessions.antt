@@ -1,11 +1,12 @@
 -- The counter of a session, by the bytes of its label's table: the value behind START_TIME, and that there is none.
-use Prim.Native.Nat.{ℕ, ◌+◌, ◌*◌, ◌/◌, ◌%◌, ◌≤◌, ◌<◌}
+use Prim.Native.Nat.{ℕ, ◌+◌, ◌*◌, ◌/◌, ◌%◌, ◌≤◌}
 use mathlib.Core.Path.{◌≡◌, refl, sym, ap, subst, ◌∙◌}
 use mathlib.Core.Bool.{cond}
 use mathlib.Core.List.{List, [], ◌∷◌, ◌++◌}
 use native.Mathlib.Omega.{arith}
 use lib.Dec.{eqb}
-use lib.ListN.{length, get_or}
+use Rattle.std.specs.Prelude.{Option, Some, None}
+use lib.ListN.{get_or}
 use borrow.Author.Rules.{rules}
 use Rattle.rules.specs.Data.{Span, Moment, Row, attribute, pointer, opened, closed, object, group, an_integer, a_real, a_moment, a_text, a_symbol, a_unit, sequence, sequence_end, set, set_end, last}
 use Rattle.rules.specs.Modes.{base}
@@ -24,8 +25,6 @@ use Rattle.rules.proofs.Book.Counters.{Counter}
 use Rattle.book.specs.Dates.{weekday_by}
 use Rattle.book.specs.Kinds.{counter_behind}
 use Rattle.book.specs.Sessions.{TableOf, StartsAt, nowhere, at_row, Counts}
-use Rattle.book.specs.declared.Start.{Start}
-use Rattle.book.specs.declared.Start.TheVariants.{At, Nowhere}
 use Rattle.book.proofs.Weekdays.{weekday_by_lem}
 use Rattle.book.proofs.Walk.{two_bytes, byte_there}
 
@@ -93,22 +92,16 @@ module _ {label lent : List ℕ} where
       let d : k + 7 + 3 ≡ k + 10 = omega arith in
       rw (y, m, d, byte_there label lent t f 5, byte_there label lent t f 6, byte_there label lent t f 7, byte_there label lent t f 8, byte_there label lent t f 9, byte_there label lent t f 10)
 
-  pub start_inside : {r : Start} {k : ℕ} → StartsAt label lent r → r ≡ At k → k < length lent
-  start_inside {k = k} s e = go (subst (StartsAt label lent) e s)
-    where
-      go : StartsAt label lent (At k) → k < length lent
-      go (at_row h g) = h
-
-  pub no_start_counts : {r : Start} → StartsAt label lent r → r ≡ Nowhere → Counts label lent 8
+  pub no_start_counts : {r : Option ℕ} → StartsAt label lent r → r ≡ None → Counts label lent 8
   no_start_counts s e = go (subst (StartsAt label lent) e s)
     where
-      go : StartsAt label lent Nowhere → Counts label lent 8
+      go : StartsAt label lent None → Counts label lent 8
       go (nowhere g) = record { is = λ rows t. no_start (g rows t); from = omega arith; upto = omega arith }
 
-  pub start_counts : {r : Start} {k n : ℕ} → StartsAt label lent r → r ≡ At k → n ≡ counter_behind lent k → Counts label lent n
+  pub start_counts : {r : Option ℕ} {k n : ℕ} → StartsAt label lent r → r ≡ Some k → n ≡ counter_behind lent k → Counts label lent n
   start_counts {k = k} {n = n} s e c = go (subst (StartsAt label lent) e s)
     where
-      go : StartsAt label lent (At k) → Counts label lent n
+      go : StartsAt label lent (Some k) → Counts label lent n
       go (at_row h g) = record {
         is = λ rows t.
             let o = g rows t in
@@ -119,4 +112,4 @@ module _ {label lent : List ℕ} where
         upto = subst (λ (i : ℕ). i ≤ 8) (sym c) (behind_range lent k).upto;
       }
 
-pub ruleset sessions = (start_inside, no_start_counts, start_counts, rules)
+pub ruleset sessions = (no_start_counts, start_counts, rules)

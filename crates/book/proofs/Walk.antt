@@ -5,6 +5,7 @@ use mathlib.Core.Bool.{Bool, true, false, cond}
 use mathlib.Core.List.{List, [], ◌∷◌, ◌++◌}
 use native.Mathlib.Omega.{arith}
 use native.Mathlib.Numerals.{add-one}
+use Rattle.std.specs.Prelude.{Some, None}
 use lib.ListN.{length, get_or, drop, length-append, length-drop, drop_of_length-le}
 use lib.Seq.{get_or-drop}
 use borrow.Author.Rules.{rules}
@@ -22,7 +23,6 @@ use Rattle.rules.proofs.Tables.Seeking.{from_next, from_bytes, from_each}
 use Rattle.rules.proofs.Book.Counting.{start_looks}
 use Rattle.book.specs.Kinds.{way_of, length_of, number_at, span_at}
 use Rattle.book.specs.Sessions.{TableOf, StartsAt, nowhere, at_row}
-use Rattle.book.specs.declared.Start.TheVariants.{At, Nowhere}
 use Rattle.book.specs.declared.kinds.Way.{Way}
 use Rattle.book.specs.declared.kinds.Way.TheVariants.{Named, Plain, Opening, Closing, Ending}
 
@@ -163,14 +163,14 @@ module _ (label lent : List ℕ) where
   walk_starts = record { on = λ rows t. (rows, here, refl); deep = omega arith }
 
   -- no START_TIME, where that is known of what is left
-  none_ahead : {at depth : ℕ} → Ahead at depth → ((rows qs : List Row) → TableOf label lent rows → From at rows qs → seeks label start_time depth at qs ≡ absent) → StartsAt label lent Nowhere
+  none_ahead : {at depth : ℕ} → Ahead at depth → ((rows qs : List Row) → TableOf label lent rows → From at rows qs → seeks label start_time depth at qs ≡ absent) → StartsAt label lent None
   none_ahead a g = nowhere (λ rows t. let o = a.on rows t in subst (Looks label start_time 0 rows) (sym o.2 ∙ g rows o.0 t o.1) (start_looks t.reads))
 
-  pub walk_runs_out : {at depth : ℕ} → Ahead at depth → length lent ≤ at → StartsAt label lent Nowhere
+  pub walk_runs_out : {at depth : ℕ} → Ahead at depth → length lent ≤ at → StartsAt label lent None
   unfolding seeks
   walk_runs_out {at} {depth} a h = none_ahead a (λ rows qs t f. ap (seeks label start_time depth at) (none_left qs t f h))
 
-  module _ {at depth n : ℕ} {w : Way} (a : Ahead at depth) (h : at < length lent) (e : (n ≡ length_of (get_or lent at 0)) × (1 ≤ n) × (n ≤ 16)) (v : w ≡ way_of (get_or lent at 0)) where
+  module _ {at depth n : ℕ} {w : Way} (a : Ahead at depth) (h : at < length lent) (e : n ≡ length_of (get_or lent at 0)) (v : w ≡ way_of (get_or lent at 0)) where
     -- the row there, by its bytes
     record RowThere (rows qs : List Row) : Type 0 where
       row : Row
@@ -189,7 +189,7 @@ module _ (label lent : List ℕ) where
           row = o.row;
           rest = o.rest;
           is = o.is;
-          size = sym (e.0 ∙ ap (λ (b : ℕ). length_of b) k ∙ row_size o.row (table o.rest));
+          size = sym (e ∙ ap (λ (b : ℕ). length_of b) k ∙ row_size o.row (table o.rest));
           does = λ f x y z u. row_way o.row (table o.rest) c f x y z u ∙ ap₂ (λ (i : Way) (p : Span). by_code i (f p) x y z u) (sym (v ∙ ap (λ (b : ℕ). way_of b) k)) (sym (span_there t g));
         }
       where
@@ -220,13 +220,13 @@ module _ (label lent : List ℕ) where
     step zero rows qs o = rw o.size (o.does _ _ _ _ _)
     step (suc d) rows qs o = rw o.size (o.does _ _ _ _ _)
 
-    none_there : ((rest : List Row) → sought depth rest ≡ absent) → StartsAt label lent Nowhere
+    none_there : ((rest : List Row) → sought depth rest ≡ absent) → StartsAt label lent None
     none_there g = none_ahead a (λ rows qs t f. let o = row_there rows qs t f in ap (seeks label start_time depth at) o.is ∙ step depth rows qs o ∙ g o.rest)
 
     on : (d : ℕ) → d ≤ at + n → ((rest : List Row) → sought depth rest ≡ next d rest) → Ahead (at + n) d
     on d l g = passes d l (λ rows qs o. step depth rows qs o ∙ g o.rest)
 
-    pub walk_ends : w ≡ Ending → StartsAt label lent Nowhere
+    pub walk_ends : w ≡ Ending → StartsAt label lent None
     walk_ends k = none_there (go depth)
       where
         go : (d : ℕ) (rest : List Row) → sought d rest ≡ absent
@@ -247,8 +247,8 @@ module _ (label lent : List ℕ) where
         go zero z rest = absurd (z refl)
         go (suc d) z rest = rw k
 
-    pub walk_opens : w ≡ Opening → Ahead (at + n) (depth + 1)
-    walk_opens k = on (depth + 1) (omega (arith, a.deep, e.1)) (λ rest. go depth rest ∙ ap (λ (d : ℕ). next d rest) (sym (add-one depth)))
+    pub walk_opens : w ≡ Opening → 1 ≤ n → Ahead (at + n) (depth + 1)
+    walk_opens k i = on (depth + 1) (omega (arith, a.deep)) (λ rest. go depth rest ∙ ap (λ (d : ℕ). next d rest) (sym (add-one depth)))
       where
         go : (d : ℕ) (rest : List Row) → sought d rest ≡ next (suc d) rest
         go zero rest = rw k
@@ -261,7 +261,7 @@ module _ (label lent : List ℕ) where
         go zero z rest = absurd (z refl)
         go (suc d) z rest = let e : suc d - 1 ≡ d = omega arith in rw (k, e)
 
-    pub walk_closed : w ≡ Closing → depth ≡ 0 → StartsAt label lent Nowhere
+    pub walk_closed : w ≡ Closing → depth ≡ 0 → StartsAt label lent None
     walk_closed k z = none_there (go depth z)
       where
         go : (d : ℕ) → d ≡ 0 → (rest : List Row) → sought d rest ≡ absent
@@ -276,7 +276,7 @@ module _ (label lent : List ℕ) where
       pub walk_passes : t ≡ false → Ahead (at + n) depth
       walk_passes q = on depth (omega (arith, a.deep)) (λ rest. at_top depth z rest ∙ ap (λ (u : Bool). cond u (stands at) (next depth rest)) q)
 
-      pub walk_found : t ≡ true → StartsAt label lent (At at)
+      pub walk_found : t ≡ true → StartsAt label lent (Some at)
       walk_found q = at_row h (λ rows u.
           let o = a.on rows u in
           let r = row_there rows o.0 u o.1 in
@@ -286,8 +286,4 @@ module _ (label lent : List ℕ) where
           let l = subst (Looks label start_time 0 rows) (sym o.2 ∙ ap (seeks label start_time depth at) r.is ∙ step depth rows o.0 r ∙ y) (start_looks u.reads) in
           (l, p.0, r.rest, subst (λ (x : Row). From at rows (x ∷ r.rest)) p.1 f))
 
--- the walk comes nearer to the table's end
-pub walk_nearer : {l at n k : ℕ} → at < l → (n ≡ k) × (1 ≤ n) × (n ≤ 16) → l - (at + n) < l - at
-walk_nearer h e = omega (arith, e.1)
-
-pub ruleset walks = (walk_starts, walk_runs_out, walk_ends, walk_plain, walk_inside, walk_opens, walk_closes, walk_closed, walk_passes, walk_found, walk_nearer, rules)
+pub ruleset walks = (walk_starts, walk_runs_out, walk_ends, walk_plain, walk_inside, walk_opens, walk_closes, walk_closed, walk_passes, walk_found, rules)

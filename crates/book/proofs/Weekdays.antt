@@ -102,7 +102,3 @@ weekday_by_lem y m d h g l = go (ltb m 3) refl
         let v : days_of_months y m + 306 ≡ year_length y + f = from_march y m g l ∙ rw u (omega arith) in
         let z : y + 399 + (m + 9) / 12 ≡ y + 400 = omega arith in
         ap (λ (k : ℕ). weekday_of k f d) z ∙ weeks y f d (day_number (dated y m d)) (omega (arith, year_more y))
-
--- as the code has it
-pub by_arithmetic : (y : ℕ) {m d month day : ℕ} → (month ≡ m) × (month ≤ 255) → (day ≡ d) × (day ≤ 255) → weekday_of (y + 399 + (month + 9) / 12) ((153 * ((month + 9) % 12) + 2) / 5) day ≡ weekday_by y m d
-by_arithmetic y e f = rw (e.0, f.0)

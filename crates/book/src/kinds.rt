@@ -46,19 +46,19 @@ const DATE: u8 = 1;
 const DATE_AND_TIME: u8 = 3;
 
 // The last row's number is far from the others: it is tested apart, so that no table of jumps runs up to it.
-pub fn way_of(kind: u8) -> Way
-    ensures { result ≡ way_of kind }
-{
-    if kind == LAST {
-        return Way::Ending;
-    }
-    match kind {
-        ATTRIBUTE => Way::Named,
-        OBJECT => Way::Opening,
-        END_OBJECT => Way::Closing,
-        GROUP => Way::Opening,
-        END_GROUP => Way::Closing,
-        _ => Way::Plain,
+impl From<u8> for Way {
+    ghost from_gives = { λ kind way. way ≡ way_of kind };
+
+    fn from(kind: u8) -> Way {
+        if kind == LAST {
+            return Way::Ending;
+        }
+        match kind {
+            ATTRIBUTE => Way::Named,
+            OBJECT | GROUP => Way::Opening,
+            END_OBJECT | END_GROUP => Way::Closing,
+            _ => Way::Plain,
+        }
     }
 }
 
@@ -74,8 +74,7 @@ pub fn row_length(kind: u8) -> usize
         return 1;
     }
     match kind {
-        END_OBJECT => 1,
-        END_GROUP => 1,
+        END_OBJECT | END_GROUP => 1,
         INTEGER => 9,
         REAL => 11,
         MOMENT => 16,
@@ -84,19 +83,12 @@ pub fn row_length(kind: u8) -> usize
     }
 }
 
-// A number of two bytes, the high one first.
-fn join(high: u8, low: u8) -> u16
-    ensures { result ≡ high * 256 + low }
-{
-    high as u16 * 256 + low as u16
-}
-
-// The number of two bytes at a place.
+// The number of two bytes at a place, the high one first.
 fn number_at(table: &[u8], at: usize) -> u16
-    requires { at < 18446744073709551615 }
+    requires { at < usize.MAX }
     ensures { result ≡ number_at table.now at }
 {
-    join(byte_at(table, at), byte_at(table, at + 1))
+    u16::from(byte_at(table, at)) * 256 + u16::from(byte_at(table, at + 1))
 }
 
 // Whether the attribute whose row starts at a place is START_TIME.
@@ -104,14 +96,14 @@ pub fn is_start_time(label: &[u8], table: &[u8], at: usize) -> bool
     requires { at < length table.now }
     ensures { result ≡ has_name label.now start_time (span_at table.now at) }
 {
-    let a = number_at(table, at + 1) as usize;
-    let b = number_at(table, at + 3) as usize;
+    let a = usize::from(number_at(table, at + 1));
+    let b = usize::from(number_at(table, at + 3));
     alike(part(label, a, b), b"START_TIME")
 }
 
 // The weekday of the date at a place: year, month and day.
 fn weekday_at(table: &[u8], at: usize) -> usize
-    requires { at < 18446744073709551612 }
+    requires { at + 3 ≤ usize.MAX }
     ensures { result ≡ weekday_at table.now at }
 {
     weekday(
@@ -129,12 +121,8 @@ pub fn counter_behind(table: &[u8], at: usize) -> usize
     if byte_at(table, at + 5) != MOMENT {
         return UNDATED;
     }
-    let parts = byte_at(table, at + 6);
-    if parts == DATE {
-        return weekday_at(table, at + 7);
+    match byte_at(table, at + 6) {
+        DATE | DATE_AND_TIME => weekday_at(table, at + 7),
+        _ => UNDATED,
     }
-    if parts == DATE_AND_TIME {
-        return weekday_at(table, at + 7);
-    }
-    UNDATED
 }

@@ -1,65 +1,58 @@
--- Upper case, and names compared case folded.
-use Prim.Native.Nat.{ℕ, suc, ◌+◌, ◌-◌, ◌≤◌, ◌<◌}
-use mathlib.Core.Bool.{Bool, true, false, not, ◌&&◌}
-use mathlib.Core.Path.{◌≡◌, refl, sym, ap, ◌∙◌}
+-- Names compared case folded: std folds them down, the rules up.
+use Prim.Native.Nat.{ℕ, ◌+◌, ◌≤◌}
+use mathlib.Core.Bool.{Bool, true, false}
+use mathlib.Core.Path.{◌≡◌, refl, sym, ap, ap₂, ◌∙◌}
 use mathlib.Core.List.{List, [], ◌∷◌, map}
 use native.Mathlib.Omega.{arith}
-use borrow.Author.Tests.{leb-true, not-true, not-false}
-use lib.Dec.{eqb, leb}
-use lib.ListN.{length, get_or, drop, drop_of_length-le}
-use Rattle.rules.specs.Bytes.{lower, fold}
+use lib.Dec.{ltb}
+use Rattle.std.specs.Prelude.{◌↔◌, IsTrue}
+use Rattle.std.specs.Char.{to_ascii_uppercase, to_ascii_lowercase}
+use Rattle.std.proofs.Common.{rules}
+use Rattle.std.proofs.lemmas.Bool.{ltb-true, ltb-false}
+use Rattle.std.proofs.lemmas.Str.Ascii.{lowercase-uppercase, lowercase_is, uppercase_is}
+use Rattle.rules.specs.Bytes.{fold}
 use Rattle.rules.specs.Values.{same}
-use Rattle.rules.proofs.Words.Runs.{both}
-use Rattle.classes.proofs.Runs.{unroll}
+use Rattle.rules.proofs.Tables.Tests.{same_true, true_same}
 
--- ---- upper case
+-- the rules' folding is std's
+fold_is : (b : ℕ) → to_ascii_uppercase b ≡ fold b
+fold_is b = search rules
 
-pub lower_least : (b : ℕ) → lower b ≡ true → 32 ≤ b
-lower_least b h = omega (arith, leb-true 97 b (both (leb 97 b) (leb b 122) h).0)
-
-pub fold_yes : (b : ℕ) → lower b ≡ true → b - 32 ≡ fold b
-fold_yes b h = rw h
-
-pub fold_no : (b : ℕ) → lower b ≡ false → b ≡ fold b
-fold_no b h = rw h
-
--- ---- names compared
-
-pub same_letters : (a b x y : ℕ) → x ≡ fold a → y ≡ fold b → eqb x y ≡ eqb (fold a) (fold b)
-same_letters a b x y e f = rw (e, f)
-
-pub record Alike (w k : List ℕ) (i : ℕ) : Type 0 where
-  pub within : i ≤ length w
-  pub even : length w ≡ length k
-  pub rest : same (map fold (drop i w)) (map fold (drop i k)) ≡ same (map fold w) (map fold k)
-
-pub alike_starts : (w k : List ℕ) → length w ≡ length k → Alike w k 0
-alike_starts w k h = record { within = omega arith; even = h; rest = refl }
-
-pub alike_uneven : (w k : List ℕ) → (length w ≡ length k → ⊥) → false ≡ same (map fold w) (map fold k)
-alike_uneven [] [] h = absurd (h refl)
-alike_uneven [] (b ∷ k) h = refl
-alike_uneven (a ∷ w) [] h = refl
-alike_uneven (a ∷ w) (b ∷ k) h = go (eqb (fold a) (fold b)) (alike_uneven w k (λ e. h (ap suc e)))
+uppercase_lowercase : (b : ℕ) → to_ascii_uppercase (to_ascii_lowercase b) ≡ to_ascii_uppercase b
+uppercase_lowercase b = go (ltb b 65) (ltb 90 b) refl refl
   where
-    go : (t : Bool) → false ≡ same (map fold w) (map fold k) → false ≡ (t && same (map fold w) (map fold k))
-    go true e = e
-    go false e = refl
+    go : (s t : Bool) → ltb b 65 ≡ s → ltb 90 b ≡ t → to_ascii_uppercase (to_ascii_lowercase b) ≡ to_ascii_uppercase b
+    go true t e f = ap to_ascii_uppercase ((lowercase_is b).1 (ltb-true b 65 e))
+    go false true e f = ap to_ascii_uppercase ((lowercase_is b).2 (ltb-true 90 b f))
+    go false false e f =
+        let l : 65 ≤ b = ltb-false b 65 e in
+        let u : b ≤ 90 = ltb-false 90 b f in
+        let d : to_ascii_lowercase b ≡ b + 32 = (lowercase_is b).0 (l, u) in
+        let v : to_ascii_uppercase b ≡ b = (uppercase_is b).1 (omega arith) in
+        let w : to_ascii_uppercase (b + 32) + 32 ≡ b + 32 = (uppercase_is (b + 32)).0 (omega arith, omega arith) in
+        ap to_ascii_uppercase d ∙ omega (arith, v, w)
 
-module _ (w k : List ℕ) (i : ℕ) (v : Alike w k i) where
-  step : i < length w → same (map fold (drop i w)) (map fold (drop i k)) ≡ (eqb (fold (get_or w i 0)) (fold (get_or k i 0)) && same (map fold (drop (i + 1) w)) (map fold (drop (i + 1) k)))
-  step h = rw (unroll w i h, unroll k i (omega (arith, v.even)))
+-- each folding of bytes is one of the other's
+up_down : (s : List ℕ) → map fold (map to_ascii_lowercase s) ≡ map fold s
+up_down [] = refl
+up_down (b ∷ s) = ap₂ (λ (a : ℕ) (t : List ℕ). a ∷ t) (sym (fold_is (to_ascii_lowercase b)) ∙ uppercase_lowercase b ∙ fold_is b) (up_down s)
 
-  module _ (t : Bool) (h : i < length w) (e : t ≡ eqb (fold (get_or w i 0)) (fold (get_or k i 0))) where
-    pub alike_turns : not t ≡ false → Alike w k (i + 1)
-    alike_turns q = record { within = omega arith; even = v.even; rest = sym (step h ∙ rw (← e, not-false t q)) ∙ v.rest }
+down_up : (s : List ℕ) → map to_ascii_lowercase (map fold s) ≡ map to_ascii_lowercase s
+down_up [] = refl
+down_up (b ∷ s) = ap₂ (λ (a : ℕ) (t : List ℕ). a ∷ t) (ap to_ascii_lowercase (sym (fold_is b)) ∙ lowercase-uppercase b) (down_up s)
 
-    pub alike_not : not t ≡ true → false ≡ same (map fold w) (map fold k)
-    alike_not q = sym (step h ∙ rw (← e, not-true t q)) ∙ v.rest
+module _ (w k : List ℕ) where
+  alike_if : map to_ascii_lowercase w ≡ map to_ascii_lowercase k → same (map fold w) (map fold k) ≡ true
+  alike_if e = ap (same (map fold w)) (sym (sym (up_down w) ∙ ap (map fold) e ∙ up_down k)) ∙ true_same (map fold w)
 
-  pub alike_ends : length w ≤ i → true ≡ same (map fold w) (map fold k)
-  alike_ends h =
-      let n : length k ≤ i = omega (arith, v.even) in
-      let e : drop i w ≡ [] = drop_of_length-le w h in
-      let f : drop i k ≡ [] = drop_of_length-le k n in
-      sym (rw (e, f)) ∙ v.rest
+  only_alike : same (map fold w) (map fold k) ≡ true → map to_ascii_lowercase w ≡ map to_ascii_lowercase k
+  only_alike h = sym (down_up w) ∙ ap (map to_ascii_lowercase) (same_true (map fold w) (map fold k) h) ∙ down_up k
+
+  -- the answer of std's comparison is the rules'
+  pub alike_is : (t : Bool) → IsTrue t ↔ (map to_ascii_lowercase w ≡ map to_ascii_lowercase k) → t ≡ same (map fold w) (map fold k)
+  alike_is true i = sym (alike_if (i.0 refl))
+  alike_is false i = go (same (map fold w) (map fold k)) (λ h. i.1 (only_alike h))
+    where
+      go : (t : Bool) → (t ≡ true → false ≡ true) → false ≡ t
+      go true n = n refl
+      go false n = refl

@@ -1,10 +1,9 @@
--- The bytes from a place to another: how many they are, how they are cut, and what the code takes for them.
+-- The bytes from a place to another: how many they are, and how they are cut.
 use Prim.Native.Nat.{ℕ, zero, suc, ◌+◌, ◌-◌, ◌≤◌, ◌<◌}
-use mathlib.Core.Path.{◌≡◌, refl, sym, ap, ◌∙◌}
+use mathlib.Core.Path.{◌≡◌, ap, ◌∙◌}
 use mathlib.Core.List.{List, [], ◌∷◌, ◌++◌}
 use native.Mathlib.Omega.{arith}
-use lib.ListN.{length, get_or, take, drop, length-take, length-drop, drop_of_length-le}
-use lib.Seq.{take-nil, take_all}
+use lib.ListN.{length, get_or, drop, length-take, length-drop}
 use Rattle.classes.specs.Places.{part, HasByte}
 use Rattle.classes.proofs.Runs.{unroll}
 
@@ -32,24 +31,3 @@ part_split l a b e h k w = split_at (b - a) l a b e (omega arith) k w
 
 pub begins_with : (l : List ℕ) (at k : ℕ) → HasByte l at k → drop at l ≡ k ∷ drop (at + 1) l
 begins_with l at k b = rw (unroll l at b.within, b.is)
-
--- ---- what the code takes
-
-module _ (s : List ℕ) (a b : ℕ) where
-  shorter : (k : ℕ) → length (take k (drop a s)) ≤ length s
-  shorter k = simp (length-take, length-drop) (omega arith)
-
-  pub part_crossed : b ≤ a → ([] ≡ part s a b) × (0 ≤ length s)
-  part_crossed h = let e : b - a ≡ 0 = omega arith in (rw e, omega arith)
-
-  pub part_past : length s ≤ a → ([] ≡ part s a b) × (0 ≤ length s)
-  part_past h = let e : drop a s ≡ [] = drop_of_length-le s h in (rw e (sym (take-nil (b - a))), omega arith)
-
-  pub part_inside : (take (b - a) (drop a s) ≡ part s a b) × (length (take (b - a) (drop a s)) ≤ length s)
-  part_inside = (refl, shorter (b - a))
-
-  pub part_rest : length s < b → (take (length s - a) (drop a s) ≡ part s a b) × (length (take (length s - a) (drop a s)) ≤ length s)
-  part_rest h =
-      let k : length (drop a s) ≤ length s - a = simp length-drop (omega arith) in
-      let l : length (drop a s) ≤ b - a = simp length-drop (omega arith) in
-      (take_all (length s - a) (drop a s) k ∙ sym (take_all (b - a) (drop a s) l), shorter (length s - a))

@@ -10,7 +10,7 @@ use borrow.Author.Tests.{not-true, not-false}
 use lib.Dec.{eqb, ltb}
 use lib.ListN.{length, get_or, take, drop, take-append-drop, drop_of_length-le}
 use lib.Seq.{drop-cons, drop-drop, get_or-drop}
-use Rattle.rules.specs.Bytes.{digit, alnum, line_end, word_byte, front, Run, stops, goes_on}
+use Rattle.rules.specs.Bytes.{line_end, word_byte, front, Run, stops, goes_on}
 use Rattle.rules.specs.Elements.{in_word, in_text, in_symbol, in_comment, in_line}
 use Rattle.rules.proofs.Machine.Checks.{text_byte, symbol_byte}
 use Rattle.classes.specs.Places.{part, EndsAt, ByteAt}
@@ -137,25 +137,3 @@ comment_stop l at i n t v h b z k = stop in_comment l at i v (comment_at l i n h
 
 pub comment_last : (l : List ℕ) (at i : ℕ) → Passing in_comment l at i → length l ≤ i → EndsAt in_comment l at i
 comment_last l at i v h = stop in_comment l at i v (ap in_comment (drop_of_length-le l h))
-
--- ---- digits
-
-pub digit_turn : (l : List ℕ) (at i : ℕ) (t : Bool) → Passing (front digit) l at i → i < length l → t ≡ digit (get_or l i 0) → not t ≡ false → Passing (front digit) l at (i + 1)
-digit_turn = byte_turn digit
-
-pub digit_stop : (l : List ℕ) (at i : ℕ) (t : Bool) → Passing (front digit) l at i → i < length l → t ≡ digit (get_or l i 0) → not t ≡ true → EndsAt (front digit) l at i
-digit_stop = byte_stop digit
-
-pub digit_last : (l : List ℕ) (at i : ℕ) → Passing (front digit) l at i → length l ≤ i → EndsAt (front digit) l at i
-digit_last = byte_end digit
-
--- ---- letters and digits
-
-pub alnum_turn : (l : List ℕ) (at i : ℕ) (t : Bool) → Passing (front alnum) l at i → i < length l → t ≡ alnum (get_or l i 0) → not t ≡ false → Passing (front alnum) l at (i + 1)
-alnum_turn = byte_turn alnum
-
-pub alnum_stop : (l : List ℕ) (at i : ℕ) (t : Bool) → Passing (front alnum) l at i → i < length l → t ≡ alnum (get_or l i 0) → not t ≡ true → EndsAt (front alnum) l at i
-alnum_stop = byte_stop alnum
-
-pub alnum_last : (l : List ℕ) (at i : ℕ) → Passing (front alnum) l at i → length l ≤ i → EndsAt (front alnum) l at i
-alnum_last = byte_end alnum

@@ -6,21 +6,16 @@ ghost use Rattle.classes.specs.Places.{ByteAt, part};
 pub fn byte_at(s: &[u8], i: usize) -> u8
     ensures { ByteAt s.now i result }
 {
-    if i < s.len() { s[i] } else { 0 }
+    s.get(i).copied().unwrap_or(0)
 }
 
 // The bytes from a to b, as many as there are.
 pub fn part<'a>(s: &'a [u8], a: usize, b: usize) -> &'a [u8]
     ensures { (result.now ≡ part s.now a b) × (length result.now ≤ length s.now) }
 {
-    if b <= a {
-        return &s[..0];
+    let end = b.min(s.len());
+    match s.get(a..end) {
+        Some(bytes) => bytes,
+        None => &s[..0],
     }
-    if b <= s.len() {
-        return &s[a..b];
-    }
-    if a < s.len() {
-        return &s[a..];
-    }
-    &s[..0]
 }

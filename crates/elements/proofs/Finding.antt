@@ -1,6 +1,6 @@
 -- The next element, in the rules' terms.
 use Prim.Native.Nat.{ℕ, ◌+◌, ◌-◌, ◌≤◌, ◌<◌}
-use mathlib.Core.Path.{◌≡◌, sym, ap, subst, ◌∙◌}
+use mathlib.Core.Path.{◌≡◌, refl, sym, ap, subst, ◌∙◌}
 use mathlib.Core.List.{List, [], ◌++◌, append-nil}
 use native.Mathlib.Omega.{arith}
 use lib.ListN.{length, drop, drop_of_length-le}
@@ -9,20 +9,24 @@ use Rattle.rules.specs.Modes.{base}
 use Rattle.rules.specs.Elements.{Gap, Spells, placed, Fault}
 use Rattle.rules.proofs.Machine.Elements.{comes, faulty, none_left, NextIs, finds, faults, ends}
 use Rattle.classes.specs.Places.{part, as_span}
-use Rattle.elements.specs.Places.{Clear, Skipped, skipped, broken}
-use Rattle.elements.specs.Next.{placed_of, place_of, Stands, stands, fails, is_over, NextAt, an_element, a_fault, no_more}
-use Rattle.elements.specs.declared.gaps.Skip.{Skip}
-use Rattle.elements.specs.declared.gaps.Skip.TheVariants.{At, Broken}
+use Rattle.elements.specs.Faults.{code_of}
+use Rattle.elements.specs.Places.{GapEnds, GapBroken}
+use Rattle.elements.specs.Next.{placed_of, place_of, ElementAt, FaultAt, ElementNext, FaultNext}
 use Rattle.elements.specs.declared.Element.{Element}
 use Rattle.elements.specs.declared.Found.{Found}
-use Rattle.elements.specs.declared.Found.TheVariants.{Next, Fault as FaultAt}
+use Rattle.elements.specs.declared.Broken.{Broken}
+use Rattle.elements.specs.declared.Fault as code
 use Rattle.classes.proofs.Runs.{joined}
 use Rattle.classes.proofs.Parts.{part_length}
 
 -- an element stands at a place, with `q` bytes left out at either side
 pub stand : (l : List ℕ) (at to q a b : ℕ) (e : Element) (x : Elem) → placed_of l e ≡ x on as_span a b → a ≡ at + q → b ≡ to - q → place_of e ≡ at → at < to → to ≤ length l →
-    Spells base (part l at to) x q (drop to l) → Stands l at (Next e to)
-stand l at to q a b e x p h k z u w s = stands u w s (p ∙ rw (h, k)) z
+    Spells base (part l at to) x q (drop to l) → ElementAt l at (e, to)
+stand l at to q a b e x p h k z u w s = record { x = x; q = q; onward = u; within = w; spells = s; placed = p ∙ rw (h, k); place = z }
+
+-- a fault at a place
+pub fails : (l : List ℕ) (at : ℕ) (f : code.Fault) → at < length l → Fault base (drop at l) (code_of f) → FaultAt l at (f, at)
+fails l at f w h = record { within = w; place = refl; is = h }
 
 found_is : (l : List ℕ) (from at e q : ℕ) (x : Elem) → from ≤ at → at ≤ e → Gap base (part l from at) (drop at l) → Spells base (part l at e) x q (drop e l) →
     NextIs base (drop from l) (comes x q (part l from at) (part l at e) (drop e l))
@@ -48,27 +52,38 @@ placed_at l from at to q x h k w =
     let t : from + length (part l from at) + length (part l at to) ≡ to = omega (arith, g, part_length l at to w) in
     rw (t, g)
 
-pub stands_next : (l : List ℕ) (from at : ℕ) {p : Found} → from ≤ at → Gap base (part l from at) (drop at l) → Stands l at p → NextAt l from p
-stands_next l from at h g (stands {x = x} {q = q} {to = to} a b s e z) =
-    let k : at ≤ to = omega arith in
-    an_element h a b (found_is l from at to q x h k g s) (e ∙ placed_at l from at to q x h k b) z
-stands_next l from at h g (fails {c} a f) = a_fault h a (faulty_is l from at c h g f)
-stands_next l from at h g (is_over e) = rw e (no_more (none_is l from at h e g))
+pub element_behind : (l : List ℕ) (from at : ℕ) (f : Found) → from ≤ at → Gap base (part l from at) (drop at l) → ElementAt l at f → ElementNext l from f
+element_behind l from at f h g e =
+    let k : at ≤ f.1 = omega (arith, e.onward) in
+    record {
+      x = e.x;
+      q = e.q;
+      at = at;
+      behind = h;
+      onward = e.onward;
+      within = e.within;
+      is = found_is l from at f.1 e.q e.x h k g e.spells;
+      placed = e.placed ∙ placed_at l from at f.1 e.q e.x h k e.within;
+      place = e.place;
+    }
 
-pub clear_of : (l : List ℕ) (from at : ℕ) (m : Skip) → Skipped l from m → m ≡ At at → Clear l at
-clear_of l from at m s q = go (rw q at s)
-  where
-    go : Skipped l from (At at) → Clear l at
-    go (skipped h c g) = c
+pub fault_behind : (l : List ℕ) (from at : ℕ) (b : Broken) → from ≤ at → Gap base (part l from at) (drop at l) → FaultAt l at b → FaultNext l from b
+fault_behind l from at b h g e =
+    subst (λ (n : ℕ). n < length l → Fault base (drop n l) (code_of b.0) → from ≤ n → Gap base (part l from n) (drop n l) → FaultNext l from b) e.place
+    (λ w f k i. record { behind = k; within = w; is = faulty_is l from b.1 (code_of b.0) k i f }) e.within e.is h g
 
-pub next_found : (l : List ℕ) (from at : ℕ) (m : Skip) (p : Found) → Skipped l from m → m ≡ At at → Stands l at p → NextAt l from p
-next_found l from at m p s q r = go (rw q at s)
-  where
-    go : Skipped l from (At at) → NextAt l from p
-    go (skipped h c g) = stands_next l from at h g r
+pub element_next : (l : List ℕ) (from at : ℕ) (f : Found) → GapEnds l from at → ElementAt l at f → ElementNext l from f
+element_next l from at f g e = element_behind l from at f g.onward g.is e
 
-pub next_broken : (l : List ℕ) (from at c : ℕ) (m : Skip) → Skipped l from m → m ≡ Broken at c → NextAt l from (FaultAt c at)
-next_broken l from at c m s q = go (rw q at s)
-  where
-    go : Skipped l from (Broken at c) → NextAt l from (FaultAt c at)
-    go (broken h o g f) = a_fault h (omega (arith, o.within)) (faulty_is l from at c h g f)
+pub fault_next : (l : List ℕ) (from at : ℕ) (b : Broken) → GapEnds l from at → FaultAt l at b → FaultNext l from b
+fault_next l from at b g e = fault_behind l from at b g.onward g.is e
+
+pub gap_broken : (l : List ℕ) (from : ℕ) (b : Broken) → GapBroken l from b → FaultNext l from b
+gap_broken l from b g = record {
+  behind = g.onward;
+  within = omega (arith, g.broken.opens.within);
+  is = faulty_is l from b.1 (code_of b.0) g.onward g.is g.broken.is;
+}
+
+pub nothing_next : (l : List ℕ) (from at : ℕ) → GapEnds l from at → at ≡ length l → NextIs base (drop from l) none_left
+nothing_next l from at g h = none_is l from at g.onward h g.is

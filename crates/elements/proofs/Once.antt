@@ -1,7 +1,7 @@
 -- The next element is one: the answer of `next` is a function of what the rules find from the place on. So are those of the functions that it is made of.
 use Prim.Native.Nat.{ℕ, ◌+◌, ◌-◌, ◌≤◌}
-use mathlib.Core.Bool.{Bool, true, false, cond, ◌||◌, true≢false}
-use mathlib.Core.Option.{Option, none, some}
+use mathlib.Core.Bool.{Bool, false, cond, true≢false}
+use Rattle.std.specs.Prelude.{Option, Some, None, Result, Ok, Err}
 use mathlib.Core.Path.{◌≡◌, refl, sym, ap, ap₂, subst, ◌∙◌}
 use mathlib.Core.List.{List, [], ◌++◌, append-nil}
 use native.Mathlib.Omega.{arith}
@@ -10,26 +10,25 @@ use lib.ListN.{length, drop, length-drop}
 use Rattle.rules.specs.Bytes.{front, pair}
 use Rattle.rules.specs.Data as rule
 use Rattle.rules.specs.Modes.{base}
-use Rattle.rules.specs.Elements.{is_blank, sign_of, comment, Gap, no_gap, blank, remark, placed, Fault, Breaks, open_at_end, open_at, foreign}
+use Rattle.rules.specs.Elements.{is_blank, comment, Gap, no_gap, blank, remark, placed, Fault, Breaks, open_at_end, open_at, foreign}
 use Rattle.rules.proofs.Machine.Elements as next
 use Rattle.rules.proofs.Machine.Elements.{comes, faulty, none_left, NextIs, finds, faults, ends, next_element}
 use Rattle.rules.proofs.Elements.Next.{next_sound, next_complete}
 use Rattle.classes.specs.Places.{part}
 use Rattle.classes.proofs.Runs.{joined}
 use Rattle.words.proofs.Once.{fixed_is, fixed_back, real_of_lem, moment_of_lem}
-use Rattle.elements.specs.Next.{placed_of, Stands, NextAt, an_element, a_fault, no_more}
-use Rattle.elements.specs.Places.{Clear, Skipped, skipped, broken, MarkOf, m_sign, m_star, m_slash, m_quote, m_apostrophe, m_nothing}
-use Rattle.elements.specs.declared.gaps.Skip.{Skip}
-use Rattle.elements.specs.declared.gaps.Skip.TheVariants.{At, Broken}
-use Rattle.elements.specs.declared.marks.Mark.{Mark}
-use Rattle.elements.specs.declared.marks.Mark.TheVariants.{One, Asterisk, Stroke, Quote, Apostrophe, Nothing}
+use Rattle.elements.specs.Faults.{code_of}
+use Rattle.elements.specs.Next.{placed_of, Stands, NextAt}
+use Rattle.elements.specs.Places.{Clear, Skipped}
+use Rattle.elements.specs.declared.Broken.{Broken}
+use Rattle.elements.specs.declared.Fault as code
+use Rattle.elements.specs.declared.Fault.TheVariants.{ForeignByte, LeftOpen, NoForm, PastLimit}
 use Rattle.elements.specs.declared.Element.{Element}
 use Rattle.elements.specs.declared.Element.TheVariants.{Name, The, End, Integer, Based, Float, Time, Text, Symbol}
 use Rattle.elements.specs.declared.Found.{Found}
-use Rattle.elements.specs.declared.Found.TheVariants.{Next, Fault as FaultAt, Finish}
 use Rattle.classes.proofs.Parts.{part_length, part_nil}
 use Rattle.elements.proofs.Pairs.{two}
-use Rattle.elements.proofs.Finding.{faulty_is, none_is, stands_next}
+use Rattle.elements.proofs.Finding.{faulty_is, none_is, element_behind, fault_behind}
 
 -- the code's element for one of the rules with its place; Text for a range, which no word of a label is
 abbrev element_is : rule.Placed → Element
@@ -55,30 +54,65 @@ element_back label (Time x a b) = refl
 element_back label (Text a b) = refl
 element_back label (Symbol a b) = refl
 
+-- the fault of a code
+abbrev fault_of : ℕ → code.Fault
+fault_of c = cond (eqb c 2) ForeignByte (cond (eqb c 3) LeftOpen (cond (eqb c 4) NoForm PastLimit))
+
+fault_back : (f : code.Fault) → fault_of (code_of f) ≡ f
+fault_back ForeignByte = refl
+fault_back LeftOpen = refl
+fault_back NoForm = refl
+fault_back PastLimit = refl
+
+-- a fault is one by its code
+pub fault_once : {f f' : code.Fault} → code_of f ≡ code_of f' → f ≡ f'
+fault_once {f} {f'} e = sym (fault_back f) ∙ ap fault_of e ∙ fault_back f'
+
 module _ (label : List ℕ) (from : ℕ) where
   -- the answer to what the rules find
-  abbrev answer : next.Ahead → Found
-  answer (comes x q g w r) = Next (element_is (placed from g w x q)) (from + length g + length w)
-  answer (faulty c g) = FaultAt c (from + length g)
-  answer none_left = Finish (length label)
+  abbrev answer : next.Ahead → Result (Option Found) Broken
+  answer (comes x q g w r) = Ok (Some (element_is (placed from g w x q), from + length g + length w))
+  answer (faulty c g) = Err (fault_of c, from + length g)
+  answer none_left = Ok None
 
-  next_is : {r : Found} → NextAt label from r → answer (next_element base (drop from label)) ≡ r
-  next_is (an_element {e} {at = at} {to = to} h a b n p z) =
-      ap answer (next_complete base n)
-      ∙ ap₂ Next (ap element_is (sym p) ∙ element_back label e) (omega (arith, part_length label from at (omega arith), part_length label at to b))
-  next_is (a_fault {c} {at} h a n) = ap answer (next_complete base n) ∙ ap (FaultAt c) (omega (arith, part_length label from at (omega arith)))
-  next_is (no_more n) = ap answer (next_complete base n)
+  found : Element → ℕ → Result (Option Found) Broken
+  found e n = Ok (Some (e, n))
 
--- two answers of `next` are one: the element with its numbers and its span, the fault with its code, and the place
-pub next_once : {label : List ℕ} {from : ℕ} {r r' : Found} → NextAt label from r → NextAt label from r' → r ≡ r'
-next_once {label} {from} x y = sym (next_is label from x) ∙ next_is label from y
+  broken : code.Fault → ℕ → Result (Option Found) Broken
+  broken f n = Err (f, n)
+
+  next_is : (r : Result (Option Found) Broken) → NextAt label from r → answer (next_element base (drop from label)) ≡ r
+  unfolding found broken
+  next_is (Ok (Some f)) n =
+      ap answer (next_complete base n.is)
+      ∙ ap₂ found (ap element_is (sym n.placed) ∙ element_back label f.0)
+      (omega (arith, part_length label from n.at (omega (arith, n.onward, n.within)), part_length label n.at f.1 n.within, n.behind, n.onward))
+  next_is (Ok None) n = ap answer (next_complete base n)
+  next_is (Err b) n = ap answer (next_complete base n.is)
+      ∙ ap₂ broken (fault_back b.0) (omega (arith, part_length label from b.1 (omega (arith, n.within)), n.behind))
+
+-- two answers of `next` are one: the element with its numbers and its span, the fault, and the place
+pub next_once : (label : List ℕ) (from : ℕ) (r r' : Result (Option Found) Broken) → NextAt label from r → NextAt label from r' → r ≡ r'
+next_once label from r r' x y = sym (next_is label from r x) ∙ next_is label from r' y
+
+-- what stands at a place, as the next element
+abbrev alone : Result Found Broken → Result (Option Found) Broken
+alone (Ok f) = Ok (Some f)
+alone (Err b) = Err b
+
+alone_once : (r r' : Result Found Broken) → alone r ≡ alone r' → r ≡ r'
+alone_once (Ok f) (Ok f') e = cc
+alone_once (Ok f) (Err b) e = cc
+alone_once (Err b) (Ok f) e = cc
+alone_once (Err b) (Err b') e = cc
 
 -- what stands at a place is the next element from there on
-pub stands_once : {label : List ℕ} {at : ℕ} {r r' : Found} → Stands label at r → Stands label at r' → r ≡ r'
-stands_once {label} {at} x y = next_once (alone x) (alone y)
-  where
-    alone : {r : Found} → Stands label at r → NextAt label at r
-    alone = stands_next label at at (omega arith) (rw (part_nil label at) no_gap)
+stands_next : (label : List ℕ) (at : ℕ) (r : Result Found Broken) → Stands label at r → NextAt label at (alone r)
+stands_next label at (Ok f) e = element_behind label at at f (omega arith) (rw (part_nil label at) no_gap) e
+stands_next label at (Err b) e = fault_behind label at at b (omega arith) (rw (part_nil label at) no_gap) e
+
+pub stands_once : (label : List ℕ) (at : ℕ) (r r' : Result Found Broken) → Stands label at r → Stands label at r' → r ≡ r'
+stands_once label at r r' x y = alone_once r r' (next_once label at (alone r) (alone r') (stands_next label at r x) (stands_next label at r' y))
 
 -- ---- gaps
 
@@ -93,14 +127,14 @@ module _ (label : List ℕ) (from : ℕ) where
   place_at (faulty c g) = from + length g
   place_at none_left = length label
 
-  abbrev code_at : next.Ahead → ℕ
-  code_at (comes x q g w r) = 0
-  code_at (faulty c g) = c
-  code_at none_left = 0
+  abbrev code_at : next.Ahead → code.Fault
+  code_at (comes x q g w r) = ForeignByte
+  code_at (faulty c g) = fault_of c
+  code_at none_left = ForeignByte
 
   -- the gap is broken where what the rules find is a comment
-  abbrev skip : next.Ahead → Skip
-  skip f = cond (pair 47 42 (drop (place_at f) label)) (Broken (place_at f) (code_at f)) (At (place_at f))
+  abbrev skip : next.Ahead → Result ℕ Broken
+  skip f = cond (pair 47 42 (drop (place_at f) label)) (Err (code_at f, place_at f)) (Ok (place_at f))
 
   module _ (at : ℕ) (h : from ≤ at) (w : at ≤ length label) (g : Gap base (part label from at) (drop at label)) where
     past : from + length (part label from at) ≡ at
@@ -126,40 +160,18 @@ module _ (label : List ℕ) (from : ℕ) where
             let l : at ≡ length label = omega arith in
             ap place_at (next_complete base (none_is label from at h l g)) ∙ sym l
 
-  skip_is : {r : Skip} → Skipped label from r → skip (next_element base (drop from label)) ≡ r
-  skip_is (skipped {at} h c g) = rw (clear_place at h c.within g c, c.no_comment)
-  skip_is (broken {at} {c} h o g f) =
-      let w : at ≤ length label = omega (arith, o.within) in
-      let e : next_element base (drop from label) ≡ faulty c (part label from at) = next_complete base (faulty_is label from at c h g f) in
-      ap skip e ∙ rw (past at h w g, two label at 47 42 o.first o.second o.within)
+  skip_is : (r : Result ℕ Broken) → Skipped label from r → skip (next_element base (drop from label)) ≡ r
+  skip_is (Ok at) g = rw (clear_place at g.onward g.clear.within g.is g.clear, g.clear.no_comment)
+  skip_is (Err b) g =
+      let o = g.broken.opens in
+      let w : b.1 ≤ length label = omega (arith, o.within) in
+      let e : next_element base (drop from label) ≡ faulty (code_of b.0) (part label from b.1) = next_complete base (faulty_is label from b.1 (code_of b.0) g.onward g.is g.broken.is) in
+      ap skip e ∙ rw (past b.1 g.onward w g.is, two label b.1 47 42 o.first o.second o.within, fault_back b.0)
 
-pub skipped_once : {label : List ℕ} {from : ℕ} {r r' : Skip} → Skipped label from r → Skipped label from r' → r ≡ r'
-skipped_once {label} {from} x y = sym (skip_is label from x) ∙ skip_is label from y
+pub skipped_once : (label : List ℕ) (from : ℕ) (r r' : Result ℕ Broken) → Skipped label from r → Skipped label from r' → r ≡ r'
+skipped_once label from r r' x y = sym (skip_is label from r x) ∙ skip_is label from r' y
 
--- ---- marks
-
--- the mark of a byte, and of the sign that it is
-abbrev mark_of_lem : ℕ → Option rule.Fixed → Mark
-mark_of_lem b (some f) = One (fixed_is f)
-mark_of_lem b none = cond (eqb b 42) Asterisk (cond (eqb b 47) Stroke (cond (eqb b 34) Quote (cond (eqb b 39) Apostrophe Nothing)))
-
-none_of : (s t u v : Bool) → (s || (t || (u || (v || false)))) ≡ false → cond s Asterisk (cond t Stroke (cond u Quote (cond v Apostrophe Nothing))) ≡ Nothing
-none_of true t u v h = absurd (true≢false h)
-none_of false true u v h = absurd (true≢false h)
-none_of false false true v h = absurd (true≢false h)
-none_of false false false true h = absurd (true≢false h)
-none_of false false false false h = refl
-
-mark_is : {b : ℕ} {m : Mark} → MarkOf b m → mark_of_lem b (sign_of base b) ≡ m
-mark_is {b} (m_sign {s} h) = ap (mark_of_lem b) h ∙ ap One (fixed_back s)
-mark_is (m_star h) = rw h
-mark_is (m_slash h) = rw h
-mark_is (m_quote h) = rw h
-mark_is (m_apostrophe h) = rw h
-mark_is {b} (m_nothing h o) = ap (mark_of_lem b) h ∙ none_of (eqb b 42) (eqb b 47) (eqb b 34) (eqb b 39) o
-
-pub mark_once : {b : ℕ} {m m' : Mark} → MarkOf b m → MarkOf b m' → m ≡ m'
-mark_once x y = sym (mark_is x) ∙ mark_is y
+-- ---- breaks
 
 pub breaks_once : {p : ℕ → Bool} {s : List ℕ} {c c' : ℕ} → Breaks p s c → Breaks p s c' → c ≡ c'
 breaks_once open_at_end open_at_end = refl
@@ -167,3 +179,7 @@ breaks_once (open_at h) (open_at k) = refl
 breaks_once (open_at h) (foreign k) = absurd (true≢false (sym h ∙ k))
 breaks_once (foreign h) (open_at k) = absurd (true≢false (sym k ∙ h))
 breaks_once (foreign h) (foreign k) = refl
+
+-- the fault of a break is one
+pub break_once : {p : ℕ → Bool} {s : List ℕ} {f f' : code.Fault} → Breaks p s (code_of f) → Breaks p s (code_of f') → f ≡ f'
+break_once x y = fault_once (breaks_once x y)

@@ -13,21 +13,19 @@ use Rattle.rules.specs.Data.{the, power}
 use Rattle.rules.specs.Modes.{base}
 use Rattle.rules.specs.Elements.{is_blank, sign_of, Spells, sign, one_star, two_stars, one_slash, no_element}
 use Rattle.classes.specs.Places.{part, ByteAt, HasByte}
-use Rattle.elements.specs.Places.{Clear, MarkOf, m_sign, m_star, m_slash, m_quote, m_apostrophe, m_nothing}
+use Rattle.elements.specs.Places.{Clear}
 use Rattle.words.specs.declared.Fixed.{Fixed}
 use Rattle.words.specs.declared.Fixed.TheVariants.{Star, Slash, Power}
-use Rattle.elements.specs.declared.marks.Mark.{Mark}
-use Rattle.elements.specs.declared.marks.Mark.TheVariants.{One, Asterisk, Stroke, Quote, Apostrophe, Nothing}
 use Rattle.elements.specs.declared.Element.TheVariants.{The}
-use Rattle.elements.specs.declared.Found.TheVariants.{Next, Fault as FaultAt}
-use Rattle.elements.specs.Next.{Stands, fails}
+use Rattle.elements.specs.declared.Fault.TheVariants.{ForeignByte}
+use Rattle.elements.specs.Next.{ElementAt, FaultAt}
 use Rattle.classes.proofs.Runs.{unroll, front_at, front_byte}
 use Rattle.classes.proofs.Parts.{part_nil, part_one, begins_with}
-use Rattle.elements.proofs.Finding.{stand}
+use Rattle.elements.proofs.Finding.{stand, fails}
 use Rattle.elements.proofs.Pairs.{two_part}
 use Rattle.words.specs.Says.{fixed_of}
 
-pub two_star : (l : List ℕ) (at x : ℕ) → HasByte l at 42 → ByteAt l (at + 1) x → x ≡ 42 → Stands l at (Next (The Power at (at + 2)) (at + 2))
+pub two_star : (l : List ℕ) (at x : ℕ) → HasByte l at 42 → ByteAt l (at + 1) x → x ≡ 42 → ElementAt l at (The Power at (at + 2), at + 2)
 two_star l at x b y q =
     let w : at + 2 ≤ length l = omega (arith, y.inside, b.within) in
     let k : at < at + 2 = omega arith in
@@ -35,72 +33,37 @@ two_star l at x b y q =
     let p : part l at (at + 2) ≡ 42 ∷ 42 ∷ [] = two_part l at 42 42 (at + 2) b.is (sym y.is ∙ q) (omega arith) w ∙ ap (λ (t : List ℕ). 42 ∷ 42 ∷ t) n in
     stand l at (at + 2) 0 at (at + 2) (The Power at (at + 2)) (the power) refl (omega arith) (omega arith) refl k w (subst (λ (t : List ℕ). Spells base t (the power) 0 (drop (at + 2) l)) (sym p) two_stars)
 
-single : (l : List ℕ) (at k : ℕ) (s : Fixed) → HasByte l at k → Spells base (k ∷ []) (the (fixed_of s)) 0 (drop (at + 1) l) → Stands l at (Next (The s at (at + 1)) (at + 1))
+single : (l : List ℕ) (at k : ℕ) (s : Fixed) → HasByte l at k → Spells base (k ∷ []) (the (fixed_of s)) 0 (drop (at + 1) l) → ElementAt l at (The s at (at + 1), at + 1)
 single l at k s b h =
     let w : at + 1 ≤ length l = omega (arith, b.within) in
     let u : at < at + 1 = omega arith in
     stand l at (at + 1) 0 at (at + 1) (The s at (at + 1)) (the (fixed_of s)) refl (omega arith) (omega arith) refl u w (subst (λ (t : List ℕ). Spells base t (the (fixed_of s)) 0 (drop (at + 1) l)) (sym (rw (part_one l at b.within, b.is))) h)
 
-pub lone_star : (l : List ℕ) (at x : ℕ) → HasByte l at 42 → ByteAt l (at + 1) x → (x ≡ 42 → ⊥) → Stands l at (Next (The Star at (at + 1)) (at + 1))
+pub lone_star : (l : List ℕ) (at x : ℕ) → HasByte l at 42 → ByteAt l (at + 1) x → (x ≡ 42 → ⊥) → ElementAt l at (The Star at (at + 1), at + 1)
 lone_star l at x b y n = single l at 42 Star b (one_star (front_byte l (at + 1) 42 refl ∙ ne_eqb (get_or l (at + 1) 0) 42 (λ q. n (y.is ∙ q))))
 
 -- ---- what a byte begins
 
-pub mark_is : (b k : ℕ) (s : Fixed) → b ≡ k → sign_of base k ≡ some (fixed_of s) → MarkOf b (One s)
-mark_is b k s e h = m_sign (ap (sign_of base) e ∙ h)
-
 no_blank_at : (l : List ℕ) (at : ℕ) → Clear l at → at < length l → is_blank (get_or l at 0) ≡ false
 no_blank_at l at c h = sym (front_at is_blank l at h) ∙ c.no_blank
 
-pub begins_at : (l : List ℕ) (at k : ℕ) → Clear l at → (at ≡ length l → ⊥) → get_or l at 0 ≡ k → HasByte l at k
-begins_at l at k c n h = record { within = omega (arith, c.within); is = h }
+pub has_byte : (l : List ℕ) (at k : ℕ) → at < length l → get_or l at 0 ≡ k → HasByte l at k
+has_byte l at k w h = record { within = w; is = h }
 
-pub one_sign : (l : List ℕ) (at : ℕ) (t : Bool) (m : Mark) (s : Fixed) → Clear l at → (at ≡ length l → ⊥) → t ≡ word_byte (get_or l at 0) → t ≡ false → MarkOf (get_or l at 0) m → m ≡ One s → Stands l at (Next (The s at (at + 1)) (at + 1))
-one_sign l at t m s c n e f k q = go (rw q at k)
-  where
-    go : MarkOf (get_or l at 0) (One s) → Stands l at (Next (The s at (at + 1)) (at + 1))
-    go (m_sign h) =
-        let w : at < length l = omega (arith, c.within) in
-        single l at (get_or l at 0) s (record { within = w; is = refl }) (sign h)
+pub one_sign : (l : List ℕ) (at k : ℕ) (s : Fixed) → sign_of base k ≡ some (fixed_of s) → at < length l → get_or l at 0 ≡ k → ElementAt l at (The s at (at + 1), at + 1)
+one_sign l at k s h w q = single l at k s (has_byte l at k w q) (sign h)
 
-pub no_sign : (l : List ℕ) (at : ℕ) (t : Bool) (m : Mark) → Clear l at → (at ≡ length l → ⊥) → t ≡ word_byte (get_or l at 0) → t ≡ false → MarkOf (get_or l at 0) m → m ≡ Nothing → Stands l at (FaultAt 2 at)
-no_sign l at t m c n e f k q = go (rw q at k)
-  where
-    go : MarkOf (get_or l at 0) Nothing → Stands l at (FaultAt 2 at)
-    go (m_nothing h o) =
-        let w : at < length l = omega (arith, c.within) in
-        fails {c = 2} w (rw (unroll l at w) (no_element (sym e ∙ f) (no_blank_at l at c w) h o))
+pub lone_slash : (l : List ℕ) (at : ℕ) → Clear l at → at < length l → get_or l at 0 ≡ 47 → ElementAt l at (The Slash at (at + 1), at + 1)
+lone_slash l at c w q =
+    let b = has_byte l at 47 w q in
+    single l at 47 Slash b (one_slash (ap (pair 47 42) (sym (begins_with l at 47 b)) ∙ c.no_comment))
 
--- the byte of a mark
-pub star_byte : (l : List ℕ) (at : ℕ) (m : Mark) → Clear l at → (at ≡ length l → ⊥) → MarkOf (get_or l at 0) m → m ≡ Asterisk → HasByte l at 42
-star_byte l at m c n k q = go (rw q at k)
-  where
-    go : MarkOf (get_or l at 0) Asterisk → HasByte l at 42
-    go (m_star h) = begins_at l at 42 c n h
-
-pub quote_byte : (l : List ℕ) (at : ℕ) (m : Mark) → Clear l at → (at ≡ length l → ⊥) → MarkOf (get_or l at 0) m → m ≡ Quote → HasByte l at 34
-quote_byte l at m c n k q = go (rw q at k)
-  where
-    go : MarkOf (get_or l at 0) Quote → HasByte l at 34
-    go (m_quote h) = begins_at l at 34 c n h
-
-pub apostrophe_byte : (l : List ℕ) (at : ℕ) (m : Mark) → Clear l at → (at ≡ length l → ⊥) → MarkOf (get_or l at 0) m → m ≡ Apostrophe → HasByte l at 39
-apostrophe_byte l at m c n k q = go (rw q at k)
-  where
-    go : MarkOf (get_or l at 0) Apostrophe → HasByte l at 39
-    go (m_apostrophe h) = begins_at l at 39 c n h
-
-pub lone_slash : (l : List ℕ) (at : ℕ) (m : Mark) → Clear l at → (at ≡ length l → ⊥) → MarkOf (get_or l at 0) m → m ≡ Stroke → Stands l at (Next (The Slash at (at + 1)) (at + 1))
-lone_slash l at m c n k q = go (rw q at k)
-  where
-    go : MarkOf (get_or l at 0) Stroke → Stands l at (Next (The Slash at (at + 1)) (at + 1))
-    go (m_slash h) =
-        let b = begins_at l at 47 c n h in
-        single l at 47 Slash b (one_slash (ap (pair 47 42) (sym (begins_with l at 47 b)) ∙ c.no_comment))
-
--- `;` is a sign of PVL alone
 -- none of the signs
-pub no_mark : (b : ℕ) → (b ≡ 61 → ⊥) → (b ≡ 44 → ⊥) → (b ≡ 42 → ⊥) → (b ≡ 47 → ⊥) → (b ≡ 94 → ⊥) → (b ≡ 60 → ⊥) → (b ≡ 62 → ⊥) → (b ≡ 40 → ⊥) → (b ≡ 41 → ⊥) → (b ≡ 123 → ⊥) → (b ≡ 125 → ⊥) → (b ≡ 34 → ⊥) → (b ≡ 39 → ⊥) → MarkOf b Nothing
-no_mark b n61 n44 n42 n47 n94 n60 n62 n40 n41 n123 n125 n34 n39 =
-    m_nothing (rw (and-false (eqb b 59), ne_eqb b 61 n61, ne_eqb b 44 n44, ne_eqb b 94 n94, ne_eqb b 60 n60, ne_eqb b 62 n62, ne_eqb b 40 n40, ne_eqb b 41 n41, ne_eqb b 123 n123, ne_eqb b 125 n125))
-    (rw (ne_eqb b 42 n42, ne_eqb b 47 n47, ne_eqb b 34 n34, ne_eqb b 39 n39))
+pub no_sign : (l : List ℕ) (at : ℕ) (t : Bool) → Clear l at → at < length l → t ≡ word_byte (get_or l at 0) → t ≡ false →
+    (get_or l at 0 ≡ 61 → ⊥) → (get_or l at 0 ≡ 44 → ⊥) → (get_or l at 0 ≡ 42 → ⊥) → (get_or l at 0 ≡ 47 → ⊥) → (get_or l at 0 ≡ 94 → ⊥) → (get_or l at 0 ≡ 60 → ⊥) → (get_or l at 0 ≡ 62 → ⊥) →
+    (get_or l at 0 ≡ 40 → ⊥) → (get_or l at 0 ≡ 41 → ⊥) → (get_or l at 0 ≡ 123 → ⊥) → (get_or l at 0 ≡ 125 → ⊥) → (get_or l at 0 ≡ 34 → ⊥) → (get_or l at 0 ≡ 39 → ⊥) → FaultAt l at (ForeignByte, at)
+no_sign l at t c w e f n61 n44 n42 n47 n94 n60 n62 n40 n41 n123 n125 n34 n39 =
+    let b = get_or l at 0 in
+    fails l at ForeignByte w (rw (unroll l at w) (no_element {b = b} (sym e ∙ f) (no_blank_at l at c w)
+    (rw (and-false (eqb b 59), ne_eqb b 61 n61, ne_eqb b 44 n44, ne_eqb b 94 n94, ne_eqb b 60 n60, ne_eqb b 62 n62, ne_eqb b 40 n40, ne_eqb b 41 n41, ne_eqb b 123 n123, ne_eqb b 125 n125))
+    (rw (ne_eqb b 42 n42, ne_eqb b 47 n47, ne_eqb b 34 n34, ne_eqb b 39 n39))))

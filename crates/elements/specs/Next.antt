@@ -1,16 +1,16 @@
 -- What `next` says of a label, in the rules' terms: the element found is the one that the rules find, at its place.
-use Rattle.std.specs.Prelude.{ℕ, ◌+◌, ◌-◌, ◌≤◌, ◌<◌, ◌≡◌, List, length, drop}
+use Rattle.std.specs.Prelude.{ℕ, ◌+◌, ◌-◌, ◌≤◌, ◌<◌, ◌≡◌, List, length, drop, Option, Some, None, Result, Ok, Err}
 use Rattle.rules.specs.Data as rule
 use Rattle.rules.specs.Modes.{base}
-use Rattle.rules.specs.Elements.{Spells, placed}
-use Rattle.rules.specs.Elements as rules
+use Rattle.rules.specs.Elements.{Spells, placed, Fault}
 use Rattle.rules.proofs.Machine.Elements.{comes, faulty, none_left, NextIs}
 use Rattle.classes.specs.Places.{name_at, part, as_span}
 use Rattle.words.specs.Says.{fixed_of, whole, real_of, moment_of}
 use Rattle.elements.specs.declared.Element.{Element}
 use Rattle.elements.specs.declared.Element.TheVariants.{Name, The, End, Integer, Based, Float, Time, Text, Symbol}
 use Rattle.elements.specs.declared.Found.{Found}
-use Rattle.elements.specs.declared.Found.TheVariants.{Next, Fault, Finish}
+use Rattle.elements.specs.declared.Broken.{Broken}
+use Rattle.elements.specs.Faults.{code_of}
 
 -- the element of the rules that an element of the code stands for, over the label's bytes
 abbrev pub placed_of : List ℕ → Element → rule.Placed
@@ -36,19 +36,47 @@ place_of (Time x a b) = a
 place_of (Text a b) = a - 1
 place_of (Symbol a b) = a - 1
 
--- what stands at a place: an element, from there to `to`; a fault; or the label's end
-pub data Stands (label : List ℕ) (at : ℕ) : Found → Type 0 where
-  stands : {e : Element} {x : rule.Elem} {q to : ℕ} → at < to → to ≤ length label → Spells base (part label at to) x q (drop to label) →
-      placed_of label e ≡ rule.◌on◌ x (as_span (at + q) (to - q)) → place_of e ≡ at → Stands label at (Next e to)
-  fails : {c : ℕ} → at < length label → rules.Fault base (drop at label) c → Stands label at (Fault c at)
-  is_over : at ≡ length label → Stands label at (Finish at)
+-- an element from a place to another, by its bytes there
+pub record ElementAt (label : List ℕ) (at : ℕ) (f : Found) : Type 0 where
+  pub x : rule.Elem
+  pub q : ℕ
+  pub onward : at < f.1
+  pub within : f.1 ≤ length label
+  pub spells : Spells base (part label at f.1) x q (drop f.1 label)
+  pub placed : placed_of label f.0 ≡ rule.◌on◌ x (as_span (at + q) (f.1 - q))
+  pub place : place_of f.0 ≡ at
 
--- an element, its bytes from `at` to `to`, behind a gap from `from`; a fault behind such a gap; or nothing but a gap
-pub data NextAt (label : List ℕ) (from : ℕ) : Found → Type 0 where
-  an_element : {e : Element} {x : rule.Elem} {q at to : ℕ} → from ≤ at → at < to → to ≤ length label →
-      NextIs base (drop from label) (comes x q (part label from at) (part label at to) (drop to label)) →
-      placed_of label e ≡ placed from (part label from at) (part label at to) x q → place_of e ≡ at →
-      NextAt label from (Next e to)
-  a_fault : {c at : ℕ} → from ≤ at → at < length label → NextIs base (drop from label) (faulty c (part label from at)) →
-      NextAt label from (Fault c at)
-  no_more : NextIs base (drop from label) none_left → NextAt label from (Finish (length label))
+-- a fault at a place
+pub record FaultAt (label : List ℕ) (at : ℕ) (b : Broken) : Type 0 where
+  pub within : at < length label
+  pub place : b.1 ≡ at
+  pub is : Fault base (drop at label) (code_of b.0)
+
+-- what stands at a place inside the label: an element or a fault
+abbrev pub Stands : List ℕ → ℕ → Result Found Broken → Type 0
+Stands label at (Ok f) = ElementAt label at f
+Stands label at (Err b) = FaultAt label at b
+
+-- an element, its bytes from `at` on, behind a gap from `from`
+pub record ElementNext (label : List ℕ) (from : ℕ) (f : Found) : Type 0 where
+  pub x : rule.Elem
+  pub q : ℕ
+  pub at : ℕ
+  pub behind : from ≤ at
+  pub onward : at < f.1
+  pub within : f.1 ≤ length label
+  pub is : NextIs base (drop from label) (comes x q (part label from at) (part label at f.1) (drop f.1 label))
+  pub placed : placed_of label f.0 ≡ placed from (part label from at) (part label at f.1) x q
+  pub place : place_of f.0 ≡ at
+
+-- a fault behind a gap from `from`
+pub record FaultNext (label : List ℕ) (from : ℕ) (b : Broken) : Type 0 where
+  pub behind : from ≤ b.1
+  pub within : b.1 < length label
+  pub is : NextIs base (drop from label) (faulty (code_of b.0) (part label from b.1))
+
+-- an element; nothing but a gap up to the label's end; or a fault
+abbrev pub NextAt : List ℕ → ℕ → Result (Option Found) Broken → Type 0
+NextAt label from (Ok (Some f)) = ElementNext label from f
+NextAt label from (Ok None) = NextIs base (drop from label) none_left
+NextAt label from (Err b) = FaultNext label from b

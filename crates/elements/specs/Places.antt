@@ -1,16 +1,11 @@
 -- What the functions of the crate say of the places of a label.
-use Rattle.std.specs.Prelude.{ℕ, ◌+◌, ◌≤◌, ◌<◌, true, false, ◌≡◌, List, length, get_or, drop}
-use Rattle.std.proofs.Math.Option.{none, some}
-use Rattle.rules.specs.Bytes.{ascii, among, front, pair}
-use Rattle.words.specs.Says.{fixed_of}
-use Rattle.words.specs.declared.Fixed.{Fixed}
+use Rattle.std.specs.Prelude.{ℕ, ◌+◌, ◌≤◌, ◌<◌, true, false, ◌≡◌, List, length, get_or, drop, Result, Ok, Err}
+use Rattle.rules.specs.Bytes.{front, pair}
 use Rattle.rules.specs.Modes.{base}
 use Rattle.rules.specs.Reading.{longest}
-use Rattle.rules.specs.Elements.{is_blank, sign_of, in_word, Comment, Gap, Fault}
-use Rattle.elements.specs.declared.gaps.Skip.{Skip}
-use Rattle.elements.specs.declared.gaps.Skip.TheVariants.{At, Broken}
-use Rattle.elements.specs.declared.marks.Mark.{Mark}
-use Rattle.elements.specs.declared.marks.Mark.TheVariants.{One, Asterisk, Stroke, Quote, Apostrophe, Nothing}
+use Rattle.rules.specs.Elements.{is_blank, in_word, Comment, Gap, Fault}
+use Rattle.elements.specs.Faults.{code_of}
+use Rattle.elements.specs.declared.Broken.{Broken}
 use Rattle.classes.specs.Places.{part}
 
 -- a comment opens at a place
@@ -31,22 +26,35 @@ pub record WordBegins (l : List ℕ) (at : ℕ) : Type 0 where
   pub is : in_word (drop at l) ≡ true
   pub short : length l ≤ longest
 
+-- a comment from a place to another
+pub record CommentEnds (l : List ℕ) (at e : ℕ) : Type 0 where
+  pub onward : at < e
+  pub within : e ≤ length l
+  pub is : Comment (part l at e) (drop e l)
+
+-- a comment that is a fault, told at its place
+pub record CommentBroken (l : List ℕ) (at : ℕ) (b : Broken) : Type 0 where
+  pub opens : CommentOpens l at
+  pub place : b.1 ≡ at
+  pub is : Fault base (drop at l) (code_of b.0)
+
 -- a comment from a place ends at another, or is a fault
-pub data Remarked (l : List ℕ) (at : ℕ) : Skip → Type 0 where
-  remarked : {e : ℕ} → at < e → e ≤ length l → Comment (part l at e) (drop e l) → Remarked l at (At e)
-  unclosed : {c : ℕ} → CommentOpens l at → Fault base (drop at l) c → Remarked l at (Broken at c)
+abbrev pub Remarked : List ℕ → ℕ → Result ℕ Broken → Type 0
+Remarked l at (Ok e) = CommentEnds l at e
+Remarked l at (Err b) = CommentBroken l at b
 
--- a gap from a place to another, where no more of it stands, or where a comment is a fault
-pub data Skipped (l : List ℕ) (from : ℕ) : Skip → Type 0 where
-  skipped : {at : ℕ} → from ≤ at → Clear l at → Gap base (part l from at) (drop at l) → Skipped l from (At at)
-  broken : {at c : ℕ} → from ≤ at → CommentOpens l at → Gap base (part l from at) (drop at l) → Fault base (drop at l) c →
-      Skipped l from (Broken at c)
+-- a gap from a place to another, where no more of it stands
+pub record GapEnds (l : List ℕ) (from at : ℕ) : Type 0 where
+  pub onward : from ≤ at
+  pub clear : Clear l at
+  pub is : Gap base (part l from at) (drop at l)
 
--- what a byte begins
-pub data MarkOf (b : ℕ) : Mark → Type 0 where
-  m_sign : {s : Fixed} → sign_of base b ≡ some (fixed_of s) → MarkOf b (One s)
-  m_star : b ≡ 42 → MarkOf b Asterisk
-  m_slash : b ≡ 47 → MarkOf b Stroke
-  m_quote : b ≡ 34 → MarkOf b Quote
-  m_apostrophe : b ≡ 39 → MarkOf b Apostrophe
-  m_nothing : sign_of base b ≡ none → among (ascii "*/\"'") b ≡ false → MarkOf b Nothing
+-- a gap from a place to a comment that is a fault
+pub record GapBroken (l : List ℕ) (from : ℕ) (b : Broken) : Type 0 where
+  pub onward : from ≤ b.1
+  pub is : Gap base (part l from b.1) (drop b.1 l)
+  pub broken : CommentBroken l b.1 b
+
+abbrev pub Skipped : List ℕ → ℕ → Result ℕ Broken → Type 0
+Skipped l from (Ok at) = GapEnds l from at
+Skipped l from (Err b) = GapBroken l from b

@@ -1,92 +1,34 @@
-// Where the runs of a label end, and the fault of one that ends too early.
+// Where the bytes of a comment end, and the fault of what ends too early.
 ghost use Rattle.std.specs.Prelude.{◌≤◌, length, drop};
 ghost use Rattle.rules.specs.Bytes.{line_end};
-ghost use Rattle.rules.specs.Elements.{in_word, in_text, in_symbol, in_comment, in_line, Breaks};
+ghost use Rattle.rules.specs.Elements.{in_comment, Breaks};
 ghost use Rattle.classes.specs.Places.{EndsAt};
+ghost use Rattle.elements.specs.Faults.{code_of};
 
-use crate::{FOREIGN_BYTE, LEFT_OPEN};
-use classes::{byte_at, in_comment, in_line, in_symbol, in_text, is_line_end, is_word};
+use crate::Fault;
+use classes::{byte_at, in_comment, is_line_end};
 
-pub fn word_end(label: &[u8], at: usize) -> usize
-    requires { at ≤ length label.now }
-    ensures { EndsAt in_word label.now at result }
-{
-    let mut i = at;
-    while i < label.len() {
-        if !is_word(label[i]) {
-            return i;
-        }
-        i += 1;
-    }
-    i
-}
-
-pub fn text_end(label: &[u8], at: usize) -> usize
-    requires { at ≤ length label.now }
-    ensures { EndsAt in_text label.now at result }
-{
-    let mut i = at;
-    while i < label.len() {
-        if !in_text(label[i]) {
-            return i;
-        }
-        i += 1;
-    }
-    i
-}
-
-pub fn symbol_end(label: &[u8], at: usize) -> usize
-    requires { at ≤ length label.now }
-    ensures { EndsAt in_symbol label.now at result }
-{
-    let mut i = at;
-    while i < label.len() {
-        if !in_symbol(label[i]) {
-            return i;
-        }
-        i += 1;
-    }
-    i
-}
-
-pub fn line_end(label: &[u8], at: usize) -> usize
-    requires { at ≤ length label.now }
-    ensures { EndsAt in_line label.now at result }
-{
-    let mut i = at;
-    while i < label.len() {
-        if !in_line(label[i]) {
-            return i;
-        }
-        i += 1;
-    }
-    i
-}
-
+// Where the bytes of a comment from a place on end.
 pub fn comment_end(label: &[u8], at: usize) -> usize
     requires { at ≤ length label.now }
     ensures { EndsAt in_comment label.now at result }
 {
-    let mut i = at;
-    while i < label.len() {
+    for i in at..label.len() {
         if !in_comment(label[i], byte_at(label, i + 1)) {
             return i;
         }
-        i += 1;
     }
-    i
+    label.len()
 }
 
-// The code of a break in a symbol or a comment.
-pub fn break_code(label: &[u8], at: usize) -> u8
+// The fault of a break in a symbol or a comment.
+pub fn break_code(label: &[u8], at: usize) -> Fault
     requires { at ≤ length label.now }
-    ensures { Breaks line_end (drop at label.now) result }
+    ensures { Breaks line_end (drop at label.now) (code_of result) }
 {
-    if at == label.len() {
-        return LEFT_OPEN;
+    if label.get(at).is_none_or(|b| is_line_end(*b)) {
+        Fault::LeftOpen
+    } else {
+        Fault::ForeignByte
     }
-    if is_line_end(label[at]) {
-        return LEFT_OPEN;
-    }
-    FOREIGN_BYTE
 }

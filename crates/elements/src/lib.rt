@@ -1,20 +1,20 @@
 // The elements of a label: blanks and comments passed, then the word, sign, text or symbol that stands there, or the fault.
 #![tactic(auto)]
 
-mod ends; // ends.rt: where runs end
+mod ends; // ends.rt: where comments end, and what breaks off
 mod gaps; // gaps.rt: blanks and comments
-mod marks; // marks.rt: signs, and what opens a text or a symbol
+mod marks; // marks.rt: signs that a star begins
 mod quotes; // quotes.rt: texts and symbols
 mod word; // word.rt: words
 
-ghost use Rattle.std.specs.Prelude.{◌≤◌, length};
+ghost use Rattle.std.specs.Prelude.{◌<◌, ◌≤◌, length};
 ghost use Rattle.rules.specs.Reading.{longest};
 ghost use Rattle.elements.specs.Places.{Clear};
 ghost use Rattle.elements.specs.Next.{Stands, NextAt};
 
 use classes::is_word;
-use gaps::{Skip, skip_gap};
-use marks::{Mark, mark_of, star_at};
+use gaps::skip_gap;
+use marks::star_at;
 use quotes::{symbol_at, text_at};
 use word::word_at;
 use words::{Fixed, Moment, Real};
@@ -33,52 +33,60 @@ pub enum Element {
     Symbol(usize, usize),
 }
 
-// What comes next: an element and the place just past it, a fault with its code and place, or the input's end and its place.
+// An element and the place just past it, closing quote included.
 #[derive(Clone, Copy)]
-pub enum Found {
-    Next(Element, usize),
-    Fault(u8, usize),
-    Finish(usize),
+pub struct Found(pub Element, pub usize);
+
+// Faults: a byte that may not stand there, a text, symbol or comment left open, an element of no form, and one past a limit.
+#[derive(Clone, Copy)]
+pub enum Fault {
+    ForeignByte,
+    LeftOpen,
+    NoForm,
+    PastLimit,
 }
 
-// The codes of faults: a byte that may not stand there, a text, symbol or comment left open, an element of no form, and one past a limit.
-pub const FOREIGN_BYTE: u8 = 2;
-
-pub const LEFT_OPEN: u8 = 3;
-
-pub const NO_FORM: u8 = 4;
-
-pub const PAST_LIMIT: u8 = 5;
+// A fault and the place where the element or comment that has it begins.
+#[derive(Clone, Copy)]
+pub struct Broken(pub Fault, pub usize);
 
 // What stands at a place where no blank and no comment does.
-fn element_at(label: &[u8], at: usize) -> Found
-    requires { Clear label.now at × (length label.now ≤ longest) }
+fn element_at(label: &[u8], at: usize) -> Result<Found, Broken>
+    requires { Clear label.now at × (at < length label.now) × (length label.now ≤ longest) }
     ensures { Stands label.now at result }
 {
-    if at == label.len() {
-        return Found::Finish(at);
-    }
     let b = label[at];
     if is_word(b) {
         return word_at(label, at);
     }
-    match mark_of(b) {
-        Mark::One(s) => Found::Next(Element::The(s, at, at + 1), at + 1),
-        Mark::Asterisk => star_at(label, at),
-        Mark::Stroke => Found::Next(Element::The(Fixed::Slash, at, at + 1), at + 1),
-        Mark::Quote => text_at(label, at),
-        Mark::Apostrophe => symbol_at(label, at),
-        Mark::Nothing => Found::Fault(FOREIGN_BYTE, at),
-    }
+    let sign = match b {
+        b'=' => Fixed::Equals,
+        b',' => Fixed::Comma,
+        b'*' => return Ok(star_at(label, at)),
+        b'/' => Fixed::Slash,
+        b'^' => Fixed::Caret,
+        b'<' => Fixed::Less,
+        b'>' => Fixed::Greater,
+        b'(' => Fixed::OpenParen,
+        b')' => Fixed::CloseParen,
+        b'{' => Fixed::OpenBrace,
+        b'}' => Fixed::CloseBrace,
+        b'"' => return text_at(label, at),
+        b'\'' => return symbol_at(label, at),
+        _ => return Err(Broken(Fault::ForeignByte, at)),
+    };
+    Ok(Found(Element::The(sign, at, at + 1), at + 1))
 }
 
-// The next element from a place on, behind blanks and comments.
-pub fn next(label: &[u8], from: usize) -> Found
+// The next element from a place on, behind blanks and comments; none at the input's end.
+pub fn next(label: &[u8], from: usize) -> Result<Option<Found>, Broken>
     requires { (from ≤ length label.now) × (length label.now ≤ longest) }
     ensures { NextAt label.now from result }
 {
-    match skip_gap(label, from) {
-        Skip::At(at) => element_at(label, at),
-        Skip::Broken(at, code) => Found::Fault(code, at),
+    let at = skip_gap(label, from)?;
+    if at == label.len() {
+        return Ok(None);
     }
+    let found = element_at(label, at)?;
+    Ok(Some(found))
 }

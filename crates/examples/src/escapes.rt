@@ -1,103 +1,46 @@
 // A label as it stands on a line, with its escapes.
 ghost use Rattle.std.specs.Prelude.{◌≤◌, ◌<◌, length};
 
-use classes::byte_at;
-
-// The place of the line feed that ends the line, or the text's end.
-pub fn line_end(text: &[u8], from: usize) -> usize
-    requires { from ≤ length text.now }
-    ensures { (from ≤ result) × (result ≤ length text.now) }
-{
-    let mut i = from;
-    while i < text.len() {
-        if text[i] == b'\n' {
-            return i;
-        }
-        i += 1;
-    }
-    i
-}
+use classes::{byte_at, part};
 
 // The value of a hexadecimal digit; 0 for any other byte.
 fn digit(b: u8) -> u8
     ensures { result < 16 }
 {
-    if b < b'0' {
-        return 0;
+    match b {
+        b'0'..=b'9' => b - b'0',
+        b'A'..=b'F' => b - b'A' + 10,
+        _ => 0,
     }
-    if b <= b'9' {
-        return b - b'0';
-    }
-    if b < b'A' {
-        return 0;
-    }
-    if b <= b'F' {
-        return b - b'A' + 10;
-    }
-    0
 }
 
-// The byte that an escape stands for, from the byte behind its backslash on.
-fn escaped(line: &[u8], at: usize) -> u8
-    requires { at < length line.now }
-{
-    let b = line[at];
-    if b == b'n' {
-        return b'\n';
+// The byte of the label that the line begins with, and the line behind it. A last backslash stands for itself.
+fn unescaped(line: &[u8]) -> Option<(u8, &[u8])> {
+    match line {
+        [b'\\', b'n', rest @ ..] => Some((b'\n', rest)),
+        [b'\\', b'r', rest @ ..] => Some((b'\r', rest)),
+        [b'\\', b't', rest @ ..] => Some((b'\t', rest)),
+        [b'\\', b'x', rest @ ..] => Some((
+            digit(byte_at(rest, 0)) * 16 + digit(byte_at(rest, 1)),
+            part(rest, 2, rest.len()),
+        )),
+        [b'\\', b, rest @ ..] => Some((*b, rest)),
+        [b, rest @ ..] => Some((*b, rest)),
+        [] => None,
     }
-    if b == b'r' {
-        return b'\r';
-    }
-    if b == b't' {
-        return b'\t';
-    }
-    if b == b'x' {
-        return digit(byte_at(line, at + 1)) * 16 + digit(byte_at(line, at + 2));
-    }
-    b
-}
-
-// The byte of the label that stands at a place of the line.
-fn meant(line: &[u8], at: usize) -> u8
-    requires { at < length line.now }
-{
-    let b = line[at];
-    if b != b'\\' {
-        return b;
-    }
-    if at + 1 < line.len() {
-        return escaped(line, at + 1);
-    }
-    b
-}
-
-// How many bytes of the line that byte takes.
-fn taken(line: &[u8], at: usize) -> usize
-    requires { at < length line.now }
-    ensures { (1 ≤ result) × (result ≤ 4) }
-{
-    if line[at] != b'\\' {
-        return 1;
-    }
-    if byte_at(line, at + 1) == b'x' {
-        return 4;
-    }
-    2
 }
 
 // The line's label into the room; how long it is. What does not fit is left out.
 pub fn unescape(line: &[u8], room: &mut [u8]) -> usize
     ensures { result ≤ length room.new }
 {
-    let mut at = 0;
-    let mut n = 0;
-    while at < line.len() {
-        if n == room.len() {
+    let mut rest = line;
+    for (n, place) in room.iter_mut().enumerate() {
+        let Some((b, more)) = unescaped(rest) else {
             return n;
-        }
-        room[n] = meant(line, at);
-        at += taken(line, at);
-        n += 1;
+        };
+        *place = b;
+        rest = more;
     }
-    n
+    room.len()
 }

@@ -9,13 +9,10 @@ mod print; // print.rt: numbers and bytes
 mod wording; // wording.rt: rows in words
 mod report; // report.rt: the answer to a label
 
-// Each line by itself.
+// Each line by itself. The last one may lack its line feed.
 fn each_line(text: &[u8]) {
-    let mut at = 0;
-    while at < text.len() {
-        let e = escapes::line_end(text, at);
-        report::example(&text[at..e]);
-        at = e + 1;
+    for line in text.split_inclusive(|b| *b == b'\n') {
+        report::example(line.strip_suffix(b"\n").unwrap_or(line));
     }
 }
 

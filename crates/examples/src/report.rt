@@ -2,8 +2,9 @@
 use crate::escapes::unescape;
 use crate::print::{print_byte, print_number};
 use crate::wording::print_rows;
+use answers::Answer;
 use classes::part;
-use statements::{code_of, length_of, place_of, read};
+use statements::read;
 
 // Room for the table of a label on a line.
 const TABLE_ROOM: usize = 4096;
@@ -36,13 +37,10 @@ fn print_answer(code: u8, place: usize, len: usize) {
 fn read_and_print(label: &[u8]) {
     let mut table = [0u8; TABLE_ROOM];
     let answer = read(label, &mut table);
-    let code = code_of(answer);
-    let len = length_of(answer);
-    print_answer(code, place_of(answer), len);
-    if code == 0 {
-        print_rows(label, part(&table, 0, len));
-    } else {
-        print_reason(code);
+    print_answer(answer.code(), answer.place(), answer.length());
+    match answer {
+        Ok(a) => print_rows(label, part(&table, 0, a.length)),
+        Err(r) => print_reason(r.code()),
     }
 }
 

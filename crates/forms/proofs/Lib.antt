@@ -1,4 +1,5 @@
 -- What the proofs of this crate share.
+pub mod Counts
 pub mod First
 pub mod Identifiers
 pub mod Numerals

@@ -1,6 +1,6 @@
 -- A word has one form, its spans and signs included: what is written says of which kind it is, and the places say the rest.
 use Prim.Native.Nat.{ℕ, ◌+◌, ◌≤◌}
-use mathlib.Core.Bool.{Bool, true, false}
+use mathlib.Core.Bool.{Bool, true, false, true≢false}
 use mathlib.Core.Option.{Option, none, some}
 use mathlib.Core.Path.{◌≡◌, refl, sym, ap, subst, ◌∙◌}
 use mathlib.Core.List.{List}
@@ -21,9 +21,9 @@ use Rattle.forms.specs.declared.Stamp.{Stamp}
 use Rattle.forms.specs.declared.Stamp.TheVariants.{Undated, Dated}
 use Rattle.forms.specs.declared.Zone.{Zone}
 use Rattle.forms.specs.declared.Zone.TheVariants.{NoZone, Utc, Offset}
-use Rattle.forms.specs.declared.Form.{Form}
-use Rattle.forms.specs.declared.Form.TheVariants.{NoForm, Name, Whole, Radix, Decimal, Day, Moment}
-use Rattle.forms.specs.Laid.{piece, absent, DigitsTo, Behind, behind, SignTo, a_minus, a_plus, no_sign, RadixTo, radix_to, BasedTo, based_to, MantissaTo, pointed_to, bare_to, PowerTo, power_to, MonthTo, month_to, DateTo, year_to, day_to, StampTo, undated_to, dated_to, HourTo, hour_to, MinuteTo, minute_to, SecondTo, second_to, ClockTo, minutes_to, seconds_to, decimals_to, OffsetTo, offset_to, Laid, no_form, name, whole, radix, unscaled, scaled, day, no_zone, by_z, by_hour, by_minute}
+use Rattle.std.specs.Prelude.{Option as OptionS, Some, None}
+use Rattle.forms.specs.declared.Form.TheVariants.{Name, Whole, Radix, Decimal, Day, Moment}
+use Rattle.forms.specs.Laid.{Answer, piece, absent, DigitsTo, Between, as_many, not_as_many, DigitsAt, digits_at, Behind, behind, SignTo, a_minus, a_plus, no_sign, RadixTo, radix_to, BasedTo, based_to, MantissaTo, pointed_to, bare_to, PowerTo, power_to, MonthTo, month_to, DateTo, year_to, day_to, StampTo, undated_to, dated_to, HourTo, hour_to, MinuteTo, minute_to, SecondTo, second_to, ClockTo, minutes_to, seconds_to, decimals_to, OffsetTo, offset_to, Laid, no_form, name, whole, radix, unscaled, scaled, day, no_zone, by_z, by_hour, by_minute}
 use Rattle.forms.specs.Forms.{zone_of, written, FormAt}
 
 -- ---- which form
@@ -42,14 +42,14 @@ zone_kind no-zoneR = locals
 zone_kind utc = utcs
 zone_kind (signed_zone west h n) = offsets
 
-abbrev which : Form → Which
-which NoForm = nothing
-which Name = names
-which (Whole neg ds) = wholes
-which (Radix r neg ds) = radices
-which (Decimal neg ds fs below x) = decimals
-which (Day d) = days
-which (Moment s c z) = which_zone z
+abbrev which : Answer → Which
+which None = nothing
+which (Some Name) = names
+which (Some (Whole neg ds)) = wholes
+which (Some (Radix r neg ds)) = radices
+which (Some (Decimal neg ds fs below x)) = decimals
+which (Some (Day d)) = days
+which (Some (Moment s c z)) = which_zone z
 
 abbrev kind : Option Written → Which
 kind none = nothing
@@ -78,39 +78,39 @@ abbrev dated_number : Stamp → ℕ
 dated_number Undated = 0
 dated_number (Dated d) = 1
 
-abbrev dates : Form → ℕ
-dates NoForm = 0
-dates Name = 0
-dates (Whole neg ds) = 0
-dates (Radix r neg ds) = 0
-dates (Decimal neg ds fs below x) = 0
-dates (Day d) = 0
-dates (Moment s c z) = dated_number s
+abbrev dates : Answer → ℕ
+dates None = 0
+dates (Some Name) = 0
+dates (Some (Whole neg ds)) = 0
+dates (Some (Radix r neg ds)) = 0
+dates (Some (Decimal neg ds fs below x)) = 0
+dates (Some (Day d)) = 0
+dates (Some (Moment s c z)) = dated_number s
 
 zone_is : (w : List ℕ) (z : Zone) → zone_kind (zone_of w z) ≡ which_zone z
 zone_is w NoZone = refl
 zone_is w Utc = refl
 zone_is w (Offset west h n) = refl
 
-kind_is : (w : List ℕ) (r : Form) → kind (written w r) ≡ which r
-kind_is w NoForm = refl
-kind_is w Name = refl
-kind_is w (Whole neg ds) = refl
-kind_is w (Radix r neg ds) = refl
-kind_is w (Decimal neg ds fs below x) = refl
-kind_is w (Day d) = refl
-kind_is w (Moment Undated c z) = zone_is w z
-kind_is w (Moment (Dated d) c z) = zone_is w z
+kind_is : (w : List ℕ) (r : Answer) → kind (written w r) ≡ which r
+kind_is w None = refl
+kind_is w (Some Name) = refl
+kind_is w (Some (Whole neg ds)) = refl
+kind_is w (Some (Radix r neg ds)) = refl
+kind_is w (Some (Decimal neg ds fs below x)) = refl
+kind_is w (Some (Day d)) = refl
+kind_is w (Some (Moment Undated c z)) = zone_is w z
+kind_is w (Some (Moment (Dated d) c z)) = zone_is w z
 
-dated_is : (w : List ℕ) (r : Form) → dated (written w r) ≡ dates r
-dated_is w NoForm = refl
-dated_is w Name = refl
-dated_is w (Whole neg ds) = refl
-dated_is w (Radix r neg ds) = refl
-dated_is w (Decimal neg ds fs below x) = refl
-dated_is w (Day d) = refl
-dated_is w (Moment Undated c z) = refl
-dated_is w (Moment (Dated d) c z) = refl
+dated_is : (w : List ℕ) (r : Answer) → dated (written w r) ≡ dates r
+dated_is w None = refl
+dated_is w (Some Name) = refl
+dated_is w (Some (Whole neg ds)) = refl
+dated_is w (Some (Radix r neg ds)) = refl
+dated_is w (Some (Decimal neg ds fs below x)) = refl
+dated_is w (Some (Day d)) = refl
+dated_is w (Some (Moment Undated c z)) = refl
+dated_is w (Some (Moment (Dated d) c z)) = refl
 
 -- ---- the places of each part
 
@@ -264,22 +264,22 @@ module _ (w : List ℕ) where
   -- ---- all forms
 
   -- what is laid, by its kind
-  data Seen : Which → Form → Type 0 where
-    see_nothing : Seen nothing NoForm
-    see_name : Seen names Name
-    see_whole : {neg : Bool} {a e : ℕ} → SignTo w 0 neg a → DigitsTo w a e → Seen wholes (Whole neg (piece a e))
-    see_radix : {r : Span} {neg : Bool} {a e : ℕ} → BasedTo w r neg a → EndsAt (front alnum) w a e → Seen radices (Radix r neg (piece a e))
-    see_unscaled : {neg : Bool} {ds fs : Span} {e : ℕ} → MantissaTo w neg ds fs e → e ≡ length w → Seen decimals (Decimal neg ds fs false absent)
-    see_scaled : {neg below : Bool} {ds fs : Span} {a e : ℕ} → PowerTo w neg ds fs below a → DigitsTo w a e → Seen decimals (Decimal neg ds fs below (piece a e))
-    see_day : {d : Date} {e : ℕ} → DateTo w d e → Seen days (Day d)
-    see_local : {s : Stamp} {c : Clock} {e : ℕ} → ClockTo w s c e → Seen locals (Moment s c NoZone)
-    see_utc : {s : Stamp} {c : Clock} {a : ℕ} → Behind (ClockTo w s c) a → Seen utcs (Moment s c Utc)
+  data Seen : Which → Answer → Type 0 where
+    see_nothing : Seen nothing None
+    see_name : Seen names (Some Name)
+    see_whole : {neg : Bool} {a e : ℕ} → SignTo w 0 neg a → DigitsTo w a e → Seen wholes (Some (Whole neg (piece a e)))
+    see_radix : {r : Span} {neg : Bool} {a e : ℕ} → BasedTo w r neg a → EndsAt (front alnum) w a e → Seen radices (Some (Radix r neg (piece a e)))
+    see_unscaled : {neg : Bool} {ds fs : Span} {e : ℕ} → MantissaTo w neg ds fs e → e ≡ length w → Seen decimals (Some (Decimal neg ds fs false absent))
+    see_scaled : {neg below : Bool} {ds fs : Span} {a e : ℕ} → PowerTo w neg ds fs below a → DigitsTo w a e → Seen decimals (Some (Decimal neg ds fs below (piece a e)))
+    see_day : {d : Date} {e : ℕ} → DateTo w d e → Seen days (Some (Day d))
+    see_local : {s : Stamp} {c : Clock} {e : ℕ} → ClockTo w s c e → Seen locals (Some (Moment s c NoZone))
+    see_utc : {s : Stamp} {c : Clock} {a : ℕ} → Behind (ClockTo w s c) a → Seen utcs (Some (Moment s c Utc))
     see_hour : {s : Stamp} {c : Clock} {west : Bool} {a e : ℕ} → OffsetTo w s c west a → DigitsTo w a e → e ≡ length w →
-        Seen offsets (Moment s c (Offset west (piece a e) absent))
+        Seen offsets (Some (Moment s c (Offset west (piece a e) absent)))
     see_minute : {s : Stamp} {c : Clock} {west : Bool} {a e b : ℕ} → OffsetTo w s c west a → DigitsTo w a e → DigitsTo w (e + 1) b →
-        Seen offsets (Moment s c (Offset west (piece a e) (piece (e + 1) b)))
+        Seen offsets (Some (Moment s c (Offset west (piece a e) (piece (e + 1) b))))
 
-  seen : {r : Form} → Laid w r → Seen (which r) r
+  seen : {r : Answer} → Laid w r → Seen (which r) r
   seen no_form = see_nothing
   seen name = see_name
   seen (whole s d) = see_whole s d
@@ -297,47 +297,58 @@ module _ (w : List ℕ) where
       OffsetTo w s' c' west' a' → DigitsTo w a' e' → DigitsTo w (e' + 1) b → ⊥
   minute_there k o d q o' d' f = omega (arith, digits_once (place (offset_once k o o')) d d', f.from, f.within)
 
-  seen_once : {k : Which} {r r' : Form} → Seen k r → Seen k r' → dates r ≡ dates r' → r ≡ r'
+  seen_once : {k : Which} {r r' : Answer} → Seen k r → Seen k r' → dates r ≡ dates r' → r ≡ r'
   seen_once see_nothing see_nothing v = refl
   seen_once see_name see_name v = refl
   seen_once (see_whole s d) (see_whole s' d') v =
       let a = sign_once refl s s' in
       let q = digits_once (place a) d d' in
-      λ i. Whole (a i).0 (piece (a i).1 (q i))
+      λ i. Some (Whole (a i).0 (piece (a i).1 (q i)))
   seen_once (see_radix {e} b d) (see_radix b' d') v =
       let a = based_once b b' in
       let q = ends_once (subst (λ (n : ℕ). EndsAt (front alnum) w n e) (place a) d) d' in
-      λ i. Radix (a i).0.0 (a i).0.1 (piece (a i).1 (q i))
-  seen_once (see_unscaled m q) (see_unscaled m' q') v = let a = mantissa_once m m' in λ i. Decimal (a i).0.0 (a i).0.1 (a i).0.2 false absent
+      λ i. Some (Radix (a i).0.0 (a i).0.1 (piece (a i).1 (q i)))
+  seen_once (see_unscaled m q) (see_unscaled m' q') v = let a = mantissa_once m m' in λ i. Some (Decimal (a i).0.0 (a i).0.1 (a i).0.2 false absent)
   seen_once (see_unscaled m q) (see_scaled p d) v = absurd (power_on m q p d)
   seen_once (see_scaled p d) (see_unscaled m q) v = absurd (power_on m q p d)
   seen_once (see_scaled p d) (see_scaled p' d') v =
       let a = power_once p p' in
       let q = digits_once (place a) d d' in
-      λ i. Decimal (a i).0.0.0 (a i).0.0.1 (a i).0.0.2 (a i).0.1 (piece (a i).1 (q i))
-  seen_once (see_day d) (see_day d') v = let a = date_once d d' in λ i. Day (a i).0
-  seen_once (see_local t) (see_local t') v = let a = clock_once v t t' in λ i. Moment (a i).0.0 (a i).0.1 NoZone
-  seen_once (see_utc (behind t)) (see_utc (behind t')) v = let a = clock_once v t t' in λ i. Moment (a i).0.0 (a i).0.1 Utc
+      λ i. Some (Decimal (a i).0.0.0 (a i).0.0.1 (a i).0.0.2 (a i).0.1 (piece (a i).1 (q i)))
+  seen_once (see_day d) (see_day d') v = let a = date_once d d' in λ i. Some (Day (a i).0)
+  seen_once (see_local t) (see_local t') v = let a = clock_once v t t' in λ i. Some (Moment (a i).0.0 (a i).0.1 NoZone)
+  seen_once (see_utc (behind t)) (see_utc (behind t')) v = let a = clock_once v t t' in λ i. Some (Moment (a i).0.0 (a i).0.1 Utc)
   seen_once (see_hour o d q) (see_hour o' d' q') v =
       let a = offset_once v o o' in
       let b = digits_once (place a) d d' in
-      λ i. Moment (a i).0.0.0 (a i).0.0.1 (Offset (a i).0.1 (piece (a i).1 (b i)) absent)
+      λ i. Some (Moment (a i).0.0.0 (a i).0.0.1 (Offset (a i).0.1 (piece (a i).1 (b i)) absent))
   seen_once (see_hour o d q) (see_minute o' d' f) v = absurd (minute_there v o d q o' d' f)
   seen_once (see_minute o d f) (see_hour o' d' q) v = absurd (minute_there (sym v) o' d' q o d f)
   seen_once (see_minute o d f) (see_minute o' d' f') v =
       let a = offset_once v o o' in
       let b = digits_once (place a) d d' in
       let c = digits_once (further b) f f' in
-      λ i. Moment (a i).0.0.0 (a i).0.0.1 (Offset (a i).0.1 (piece (a i).1 (b i)) (piece (b i + 1) (c i)))
+      λ i. Some (Moment (a i).0.0.0 (a i).0.0.1 (Offset (a i).0.1 (piece (a i).1 (b i)) (piece (b i + 1) (c i))))
 
-  pub laid_once : {r r' : Form} → Laid w r → Laid w r' → written w r ≡ written w r' → r ≡ r'
+  pub laid_once : {r r' : Answer} → Laid w r → Laid w r' → written w r ≡ written w r' → r ≡ r'
   laid_once {r} {r'} l l' v =
       let k : which r' ≡ which r = sym (kind_is w r') ∙ ap kind (sym v) ∙ kind_is w r in
       seen_once (seen l) (subst (λ (k : Which). Seen k r') k (seen l')) (sym (dated_is w r) ∙ ap dated v ∙ dated_is w r')
 
 -- two answers to what stands from a place on are one: of `shape`, and of every function for a part of the pattern
-pub form_at_once : {g : G} {w : List ℕ} {at : ℕ} {r r' : Form} → FormAt g w at r → FormAt g w at r' → r ≡ r'
+pub form_at_once : {g : G} {w : List ℕ} {at : ℕ} {r r' : Answer} → FormAt g w at r → FormAt g w at r' → r ≡ r'
 form_at_once {w = w} x y = laid_once w x.laid y.laid (sym x.matched ∙ y.matched)
 
-pub shape_once : {w : List ℕ} {r r' : Form} → FormAt (g_word base) w 0 r → FormAt (g_word base) w 0 r' → r ≡ r'
+pub shape_once : {w : List ℕ} {r r' : Answer} → FormAt (g_word base) w 0 r → FormAt (g_word base) w 0 r' → r ≡ r'
 shape_once = form_at_once
+
+-- ---- counted digits
+
+pub between_once : {a e most : ℕ} {s s' : OptionS Span} → Between a e most s → Between a e most s' → s ≡ s'
+between_once (as_many h) (as_many k) = refl
+between_once (as_many h) (not_as_many k) = absurd (true≢false (sym h ∙ k))
+between_once (not_as_many h) (as_many k) = absurd (true≢false (sym k ∙ h))
+between_once (not_as_many h) (not_as_many k) = refl
+
+pub digits_at_once : {w : List ℕ} {a most : ℕ} {s s' : OptionS Span} → DigitsAt w a most s → DigitsAt w a most s' → s ≡ s'
+digits_at_once {w} {a} {most} {s' = s'} (digits_at d b) (digits_at d' b') = between_once b (subst (λ (n : ℕ). Between a n most s') (sym (digits_once w refl d d')) b')

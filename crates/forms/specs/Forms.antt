@@ -1,5 +1,5 @@
 -- The form of a word, as the code finds it, against the rules' pattern for words.
-use Rattle.std.specs.Prelude.{ℕ, Bool, ◌≡◌, List, [], map, ◌++◌, drop, length}
+use Rattle.std.specs.Prelude.{ℕ, Bool, ◌≡◌, List, [], map, ◌++◌, drop, length, Some, None}
 use Rattle.std.proofs.Math.Option.{Option, none, some}
 use Rattle.rules.specs.Bytes.{fold, digit, between}
 use Rattle.rules.specs.Values.{Date as DateR, in_year, in_month, Zone as ZoneR, no_zone, utc, signed_zone, Second, Time, number, signed}
@@ -7,7 +7,7 @@ use Rattle.rules.specs.Values.{Written, an_identifier, a_whole, a_based, a_decim
 use Rattle.rules.proofs.Machine.Patterns.{G, stop, byte, check, run, fork, matches}
 use Rattle.rules.proofs.Machine.Words.{next_is, some_of, zero_or_more, sec, g_scale, g_based, g_minutes, g_days, g_zone, g_dated}
 use Rattle.classes.specs.Places.{part}
-use Rattle.forms.specs.Laid.{Laid}
+use Rattle.forms.specs.Laid.{Answer, Laid}
 use Rattle.forms.specs.declared.Span.{Span}
 use Rattle.forms.specs.declared.Date.{Date}
 use Rattle.forms.specs.declared.Date.TheVariants.{InYear, InMonth}
@@ -16,8 +16,7 @@ use Rattle.forms.specs.declared.Zone.{Zone}
 use Rattle.forms.specs.declared.Zone.TheVariants.{NoZone, Utc, Offset}
 use Rattle.forms.specs.declared.Stamp.{Stamp}
 use Rattle.forms.specs.declared.Stamp.TheVariants.{Undated, Dated}
-use Rattle.forms.specs.declared.Form.{Form}
-use Rattle.forms.specs.declared.Form.TheVariants.{NoForm, Name, Whole as WholeF, Radix, Decimal, Day, Moment}
+use Rattle.forms.specs.declared.Form.TheVariants.{Name, Whole as WholeF, Radix, Decimal, Day, Moment}
 
 -- the bytes of a span of the code
 abbrev pub on : List ℕ → Span → List ℕ
@@ -53,17 +52,17 @@ abbrev pub time_of : List ℕ → Stamp → Clock → ZoneR → Written
 time_of w s c z = stamped w s (clock_of w c z)
 
 -- what the code's answer says is written
-abbrev pub written : List ℕ → Form → Option Written
-written w NoForm = none
-written w Name = some (an_identifier (map fold w))
-written w (WholeF neg ds) = some (a_whole (signed neg (number (on w ds))))
-written w (Radix r neg ds) = some (a_based (number (on w r)) neg (on w ds))
-written w (Decimal neg ds fs below x) = some (a_decimal neg (on w ds) (on w fs) (signed below (number (on w x))))
-written w (Day d) = some (a_date (date_of w d))
-written w (Moment s c z) = some (time_of w s c (zone_of w z))
+abbrev pub written : List ℕ → Answer → Option Written
+written w None = none
+written w (Some Name) = some (an_identifier (map fold w))
+written w (Some (WholeF neg ds)) = some (a_whole (signed neg (number (on w ds))))
+written w (Some (Radix r neg ds)) = some (a_based (number (on w r)) neg (on w ds))
+written w (Some (Decimal neg ds fs below x)) = some (a_decimal neg (on w ds) (on w fs) (signed below (number (on w x))))
+written w (Some (Day d)) = some (a_date (date_of w d))
+written w (Some (Moment s c z)) = some (time_of w s c (zone_of w z))
 
 -- the answer to what stands from a place on: what the part of the pattern that is left finds there, and where its spans stand
-pub record FormAt (g : G) (w : List ℕ) (at : ℕ) (r : Form) : Type 0 where
+pub record FormAt (g : G) (w : List ℕ) (at : ℕ) (r : Answer) : Type 0 where
   pub matched : matches g (drop at w) ≡ written w r
   pub laid : Laid w r
 

@@ -1,8 +1,8 @@
 -- Where the parts of a form stand in its word, by places alone: each run is as long as it can be, and begins where the part before it ends.
 -- What is not written is 0 up to 0. `..To` says up to which place a part goes, with all that stands before it.
-use Rattle.std.specs.Prelude.{ℕ, ◌+◌, ◌<◌, Bool, true, false, ◌≡◌, List, length, get_or}
+use Rattle.std.specs.Prelude.{ℕ, ◌+◌, ◌-◌, ◌<◌, Bool, true, false, ◌≡◌, List, length, get_or, Option, Some, None}
 use Prim.Native.Char.{code as byte}
-use Rattle.rules.specs.Bytes.{digit, alnum, front}
+use Rattle.rules.specs.Bytes.{digit, alnum, front, between}
 use Rattle.classes.specs.Places.{EndsAt}
 use Rattle.forms.specs.declared.Span.{Span}
 use Rattle.forms.specs.declared.Date.{Date}
@@ -12,7 +12,11 @@ use Rattle.forms.specs.declared.Stamp.{Stamp}
 use Rattle.forms.specs.declared.Stamp.TheVariants.{Undated, Dated}
 use Rattle.forms.specs.declared.Zone.TheVariants.{NoZone, Utc, Offset}
 use Rattle.forms.specs.declared.Form.{Form}
-use Rattle.forms.specs.declared.Form.TheVariants.{NoForm, Name, Whole, Radix, Decimal, Day, Moment}
+use Rattle.forms.specs.declared.Form.TheVariants.{Name, Whole, Radix, Decimal, Day, Moment}
+
+-- what the code answers of a word: its form, if it has one
+abbrev pub Answer : Type 0
+Answer = Option Form
 
 -- a span of the code
 abbrev pub piece : ℕ → ℕ → Span
@@ -25,6 +29,15 @@ absent = piece 0 0
 -- digits, as many as there are
 abbrev pub DigitsTo : List ℕ → ℕ → ℕ → Type 0
 DigitsTo w a e = EndsAt (front digit) w a e
+
+-- the bytes between two places, if they are 1 at least and `most` at most
+pub data Between (a e most : ℕ) : Option Span → Type 0 where
+  as_many : between 1 most (e - a) ≡ true → Between a e most (Some (piece a e))
+  not_as_many : between 1 most (e - a) ≡ false → Between a e most None
+
+-- the digits from a place on, if they are 1 at least and `most` at most
+pub data DigitsAt (w : List ℕ) (a most : ℕ) : Option Span → Type 0 where
+  digits_at : {e : ℕ} {s : Option Span} → DigitsTo w a e → Between a e most s → DigitsAt w a most s
 
 -- behind the one byte after a part
 pub data Behind (P : ℕ → Type 0) : ℕ → Type 0 where
@@ -97,18 +110,18 @@ pub data OffsetTo (w : List ℕ) (s : Stamp) (c : Clock) : Bool → ℕ → Type
 -- ---- all forms
 
 -- where the spans of a form stand
-pub data Laid (w : List ℕ) : Form → Type 0 where
-  no_form : Laid w NoForm
-  name : Laid w Name
-  whole : {neg : Bool} {a e : ℕ} → SignTo w 0 neg a → DigitsTo w a e → Laid w (Whole neg (piece a e))
-  radix : {r : Span} {neg : Bool} {a e : ℕ} → BasedTo w r neg a → EndsAt (front alnum) w a e → Laid w (Radix r neg (piece a e))
-  unscaled : {neg : Bool} {ds fs : Span} {e : ℕ} → MantissaTo w neg ds fs e → e ≡ length w → Laid w (Decimal neg ds fs false absent)
+pub data Laid (w : List ℕ) : Answer → Type 0 where
+  no_form : Laid w None
+  name : Laid w (Some Name)
+  whole : {neg : Bool} {a e : ℕ} → SignTo w 0 neg a → DigitsTo w a e → Laid w (Some (Whole neg (piece a e)))
+  radix : {r : Span} {neg : Bool} {a e : ℕ} → BasedTo w r neg a → EndsAt (front alnum) w a e → Laid w (Some (Radix r neg (piece a e)))
+  unscaled : {neg : Bool} {ds fs : Span} {e : ℕ} → MantissaTo w neg ds fs e → e ≡ length w → Laid w (Some (Decimal neg ds fs false absent))
   scaled : {neg below : Bool} {ds fs : Span} {a e : ℕ} → PowerTo w neg ds fs below a → DigitsTo w a e →
-      Laid w (Decimal neg ds fs below (piece a e))
-  day : {d : Date} {e : ℕ} → DateTo w d e → Laid w (Day d)
-  no_zone : {s : Stamp} {c : Clock} {e : ℕ} → ClockTo w s c e → e ≡ length w → Laid w (Moment s c NoZone)
-  by_z : {s : Stamp} {c : Clock} {a : ℕ} → Behind (ClockTo w s c) a → a ≡ length w → Laid w (Moment s c Utc)
+      Laid w (Some (Decimal neg ds fs below (piece a e)))
+  day : {d : Date} {e : ℕ} → DateTo w d e → Laid w (Some (Day d))
+  no_zone : {s : Stamp} {c : Clock} {e : ℕ} → ClockTo w s c e → e ≡ length w → Laid w (Some (Moment s c NoZone))
+  by_z : {s : Stamp} {c : Clock} {a : ℕ} → Behind (ClockTo w s c) a → a ≡ length w → Laid w (Some (Moment s c Utc))
   by_hour : {s : Stamp} {c : Clock} {west : Bool} {a e : ℕ} → OffsetTo w s c west a → DigitsTo w a e → e ≡ length w →
-      Laid w (Moment s c (Offset west (piece a e) absent))
+      Laid w (Some (Moment s c (Offset west (piece a e) absent)))
   by_minute : {s : Stamp} {c : Clock} {west : Bool} {a e b : ℕ} → OffsetTo w s c west a → DigitsTo w a e → DigitsTo w (e + 1) b →
-      Laid w (Moment s c (Offset west (piece a e) (piece (e + 1) b)))
+      Laid w (Some (Moment s c (Offset west (piece a e) (piece (e + 1) b))))

@@ -1,45 +1,26 @@
-// Where runs of bytes end, and how many bytes that is.
-ghost use Rattle.std.specs.Prelude.{◌≡◌, ◌-◌, ◌≤◌, length};
-ghost use Rattle.rules.specs.Bytes.{front, digit, alnum, between};
-ghost use Rattle.classes.specs.Places.{EndsAt};
+// Digits, with bounds on how many they are.
+ghost use Rattle.std.specs.Prelude.{◌≤◌, length};
+ghost use Rattle.forms.specs.Laid.{Between, DigitsAt};
 
-use classes::{is_alnum, is_digit};
+use crate::Span;
+use classes::{Digit, run_end};
 
-// Where the digits from a place on end.
-pub fn digits_end(w: &[u8], at: usize) -> usize
-    requires { at ≤ length w.now }
-    ensures { EndsAt (front digit) w.now at result }
-{
-    let mut i = at;
-    while i < w.len() {
-        if !is_digit(w[i]) {
-            return i;
-        }
-        i += 1;
-    }
-    i
-}
-
-// Where the letters and digits from a place on end.
-pub fn alnum_end(w: &[u8], at: usize) -> usize
-    requires { at ≤ length w.now }
-    ensures { EndsAt (front alnum) w.now at result }
-{
-    let mut i = at;
-    while i < w.len() {
-        if !is_alnum(w[i]) {
-            return i;
-        }
-        i += 1;
-    }
-    i
-}
-
-// Whether the count of bytes lies between two bounds.
-pub fn counts(least: usize, most: usize, from: usize, upto: usize) -> bool
+// The bytes between two places, if they are 1 at least and `most` at most.
+pub fn counted(from: usize, upto: usize, most: usize) -> Option<Span>
     requires { from ≤ upto }
-    ensures { result ≡ between least most (upto - from) }
+    ensures { Between from upto most result }
 {
-    let n = upto - from;
-    (n >= least) & (n <= most)
+    if (1..=most).contains(&(upto - from)) {
+        Some(Span { from, upto })
+    } else {
+        None
+    }
+}
+
+// The digits from a place on, if they are 1 at least and `most` at most.
+pub fn digits(w: &[u8], at: usize, most: usize) -> Option<Span>
+    requires { at ≤ length w.now }
+    ensures { DigitsAt w.now at most result }
+{
+    counted(at, run_end::<Digit>(w, at), most)
 }

@@ -1,7 +1,7 @@
 // The form of a word: which bytes of it are what, as spans of the word, or that it has no form.
 #![tactic(auto)]
 
-mod ends; // ends.rt: where digits and letters end
+mod ends; // ends.rt: digits, with bounds on how many they are
 mod numbers; // numbers.rt: numbers
 mod times; // times.rt: dates and times
 
@@ -19,6 +19,9 @@ pub struct Span {
     pub from: usize,
     pub upto: usize,
 }
+
+// What is not written.
+const ABSENT: Span = Span { from: 0, upto: 0 };
 
 // The day of the year; the month and the day. The year is the first four bytes.
 #[derive(Clone, Copy)]
@@ -52,7 +55,6 @@ pub enum Stamp {
 // What a word is. A bool says that there is a minus.
 #[derive(Clone, Copy)]
 pub enum Form {
-    NoForm,
     Name,
     // The digits.
     Whole(bool, Span),
@@ -70,22 +72,18 @@ fn is_more(w: &[u8], from: usize) -> bool
     ensures { result ≡ more false (drop from w.now) }
 {
     let mut under = false;
-    let mut i = from;
-    while i < w.len() {
-        let b = w[i];
-        if is_alnum(b) {
+    for b in &w[from..] {
+        if is_alnum(*b) {
             under = false;
-            i += 1;
-        } else {
-            if b != b'_' {
-                return false;
-            }
-            if under {
-                return false;
-            }
-            under = true;
-            i += 1;
+            continue;
         }
+        if *b != b'_' {
+            return false;
+        }
+        if under {
+            return false;
+        }
+        under = true;
     }
     !under
 }
@@ -94,25 +92,22 @@ fn is_more(w: &[u8], from: usize) -> bool
 fn sign_length(b: u8) -> usize
     ensures { Signed b result }
 {
-    if b == b'-' {
-        return 1;
+    match b {
+        b'-' | b'+' => 1,
+        _ => 0,
     }
-    if b == b'+' {
-        return 1;
-    }
-    0
 }
 
 // The form of any bytes as a word, in one pass over them. One call of `number_at`: the compiler then keeps the form in registers.
-pub fn shape(w: &[u8]) -> Form
+pub fn shape(w: &[u8]) -> Option<Form>
     ensures { FormAt (g_word base) w.now 0 result }
 {
     let b = byte_at(w, 0);
     if is_letter(b) {
         if is_more(w, 1) {
-            return Form::Name;
+            return Some(Form::Name);
         }
-        return Form::NoForm;
+        return None;
     }
     number_at(w, b == b'-', sign_length(b))
 }

@@ -1,5 +1,6 @@
 -- Digits of a number, from the last one on: k of them, how many there are, and those of a fraction.
 use Prim.Native.Nat.{ℕ, zero, suc, ◌+◌, ◌-◌, ◌*◌, ◌/◌, ◌%◌, ◌^◌, ◌≤◌, ◌<◌, min}
+use Rattle.std.specs.Prelude.{Some, None}
 use mathlib.Core.Path.{◌≡◌, refl, ap, sym, ◌∙◌}
 use mathlib.Core.Bool.{and-false}
 use mathlib.Core.List.{List, [], ◌∷◌, ◌++◌}
@@ -22,21 +23,21 @@ use Rattle.numerals.specs.Counts.{Counted, Trimmed}
 
 -- ---- a number without its last digits
 
-pub record Fewer (n k v i : ℕ) : Type 0 where
-  pub within : i ≤ k
+-- i of them are gone
+pub record Fewer (n v i : ℕ) : Type 0 where
   pub value : v ≡ n / 10 ^ i
 
-pub fewer_start : (n k : ℕ) → Fewer n k n 0
-fewer_start n k = record { within = omega arith; value = omega arith }
+pub fewer_start : (n : ℕ) → Fewer n n 0
+fewer_start n = record { value = omega arith }
 
 div_ten : (n k : ℕ) → n / 10 ^ k / 10 ≡ n / 10 ^ suc k
 div_ten n k = div-div-eq-div-mul n (10 ^ k) 10 ∙ ap (λ (i : ℕ). n / i) (sym (pow-suc 10 k))
 
-pub fewer_turn : (n k v i : ℕ) → Fewer n k v i → i < k → Fewer n k (v / 10) (i + 1)
-fewer_turn n k v i f h = record { within = omega arith; value = rw (add-one, f.value) (div_ten n i) }
+pub fewer_turn : (n v i : ℕ) → Fewer n v i → Fewer n (v / 10) (i + 1)
+fewer_turn n v i f = record { value = rw (add-one, f.value) (div_ten n i) }
 
-pub fewer_end : (n k v i : ℕ) → Fewer n k v i → k ≤ i → v ≡ n / 10 ^ k
-fewer_end n k v i f h = let e : i ≡ k = omega (arith, f.within) in rw e at f.value
+pub fewer_end : (n k v i : ℕ) → Fewer n v i → i ≡ k → v ≡ n / 10 ^ k
+fewer_end n k v i f h = rw h at f.value
 
 -- ---- k digits, the last one first
 
@@ -148,6 +149,7 @@ count_end n v (suc k) c h =
 
 -- ---- decimals without the zeros that end them
 
+-- as many as k are left
 pub record Trimming (n v k : ℕ) : Type 0 where
   pub most : k ≤ 9
   pub rest : significant (wide 9 n) ≡ significant (wide k v)
@@ -155,20 +157,26 @@ pub record Trimming (n v k : ℕ) : Type 0 where
 pub trim_start : (n : ℕ) → Trimming n n 9
 trim_start n = record { most = omega arith; rest = refl }
 
+-- the loop's number is one more than the turn's
+counted_down : (k : ℕ) → 0 < k → k ≡ k - 1 + 1
+counted_down k h = omega arith
+
 pub trim_turn : (n v k : ℕ) → Trimming n v k → 0 < k → v % 10 ≡ 0 → Trimming n (v / 10) (k - 1)
-trim_turn n v zero t h e = absurd (omega arith)
-trim_turn n v (suc k) t h e =
-    let d : suc k - 1 ≡ k = omega arith in
-    record { most = omega (arith, t.most); rest = t.rest ∙ rw (d, last_digit k v, e) (zeros_behind (wide k (v / 10)) (48 ∷ []) refl) }
+trim_turn n v k t h e =
+    let r : significant (wide 9 n) ≡ significant (wide (suc (k - 1)) v) = rw (counted_down k h, add-one) at t.rest in
+    record { most = omega (arith, t.most); rest = r ∙ rw (last_digit (k - 1) v, e) (zeros_behind (wide (k - 1) (v / 10)) (48 ∷ []) refl) }
 
-pub trim_end : (n v k : ℕ) → Trimming n v k → 0 < k → (v % 10 ≡ 0 → ⊥) → Trimmed n (record { size = k; value = v })
-trim_end n v zero t h e = absurd (omega arith)
-trim_end n v (suc k) t h e =
-    record { are = t.rest ∙ rw (last_digit k v) (significant_whole (wide k (v / 10)) (48 + v % 10) (ne_eqb (48 + v % 10) 48 (λ q. e (omega arith)))); most = t.most }
+pub trim_end : (n v k : ℕ) → Trimming n v k → 0 < k → (v % 10 ≡ 0 → ⊥) → Trimmed n (Some (record { size = k - 1 + 1; value = v }))
+trim_end n v k t h e =
+    let r : significant (wide 9 n) ≡ significant (wide (suc (k - 1)) v) = rw (counted_down k h, add-one) at t.rest in
+    record {
+      are = r ∙ rw (add-one, last_digit (k - 1) v) (significant_whole (wide (k - 1) (v / 10)) (48 + v % 10) (ne_eqb (48 + v % 10) 48 (λ q. e (omega arith))));
+      some = (omega arith, omega (arith, t.most));
+    }
 
-pub trim_none : (n v k : ℕ) → Trimming n v k → k ≤ 0 → Trimmed n (record { size = 0; value = v })
+pub trim_none : (n v k : ℕ) → Trimming n v k → k ≤ 0 → Trimmed n None
 unfolding wide
 trim_none n v k t h =
     let e : k ≡ 0 = omega arith in
     let r : significant (wide 9 n) ≡ significant (wide 0 v) = rw e at t.rest in
-    record { are = r; most = omega arith }
+    record { are = r; some = tt }

@@ -1,9 +1,11 @@
 -- Dates and times by their parts.
-use Prim.Native.Nat.{ℕ, zero, suc, ◌/◌, ◌%◌}
+use Prim.Native.Nat.{ℕ, zero, suc, ◌/◌, ◌%◌, ◌≤◌}
 use mathlib.Core.Bool.{Bool, cond}
-use mathlib.Core.Path.{◌≡◌, refl, ap, ◌∙◌}
+use mathlib.Core.Path.{◌≡◌, ap, ◌∙◌}
 use mathlib.Core.List.{List, [], ◌∷◌, ◌++◌, append_assoc}
 use borrow.Author.Tests.{eq-eqb, ne_eqb}
+use native.Mathlib.Omega.{arith}
+use Rattle.std.specs.Prelude.{Option, Some, None}
 use Rattle.words.specs.declared.Moment.{Moment}
 use Rattle.rules.specs.Values.{significant}
 use Rattle.rules.specs.Written.{wide, date_bytes, fraction, zone, time_bytes, moment_bytes}
@@ -13,18 +15,21 @@ use Rattle.output.proofs.Laws.{same_part, nothing}
 use Rattle.numerals.specs.Counts.{Trimmed}
 use Rattle.numerals.specs.declared.times.Fraction.{Fraction}
 
+-- how many decimals are left
+pub sizes : {o : Option Fraction} {f : Fraction} {n : ℕ} → Trimmed n o → o ≡ Some f → (1 ≤ f.size) × (f.size ≤ 9)
+sizes t h = rw h at t.some
+
 module _ {room out : List ℕ} {r : ℕ} where
   -- the decimals of a second
-  pub no_fraction : {f : Fraction} {n : ℕ} → Trimmed n f → f.size ≡ 0 → room ≡ out → r ≡ 0 → Puts (fraction (significant (wide 9 n))) room out r
-  unfolding wide
-  no_fraction {f} {n} t h e z = rw (t.are, h, e, z) (nothing out)
+  pub no_fraction : {o : Option Fraction} {n : ℕ} → Trimmed n o → o ≡ None → room ≡ out → r ≡ 0 → Puts (fraction (significant (wide 9 n))) room out r
+  no_fraction {o} {n} t h e z = rw (t.are, h, e, z) (nothing out)
 
-  pub some_fraction : {f : Fraction} {n : ℕ} → Trimmed n f → (f.size ≡ 0 → ⊥) → Puts (46 ∷ wide f.size f.value) room out r → Puts (fraction (significant (wide 9 n))) room out r
+  pub some_fraction : {o : Option Fraction} {f : Fraction} {n : ℕ} → Trimmed n o → o ≡ Some f → Puts (46 ∷ wide f.size f.value) room out r → Puts (fraction (significant (wide 9 n))) room out r
   unfolding wide
-  some_fraction {f} {n} t h p = rw t.are (go f.size h p)
+  some_fraction {o} {f} {n} t h p = rw (t.are, h) (go f.size (sizes t h).0 p)
     where
-      go : (k : ℕ) → (k ≡ 0 → ⊥) → Puts (46 ∷ wide k f.value) room out r → Puts (fraction (wide k f.value)) room out r
-      go zero h p = absurd (h refl)
+      go : (k : ℕ) → 1 ≤ k → Puts (46 ∷ wide k f.value) room out r → Puts (fraction (wide k f.value)) room out r
+      go zero h p = absurd (omega arith)
       go (suc k) h p = p
 
   -- zones

@@ -8,7 +8,6 @@ ghost use Rattle.output.specs.Puts.{Puts};
 ghost use Rattle.numerals.specs.Counts.{Trimmed};
 
 use crate::numbers::put_wide;
-use classes::least;
 use output::put_byte;
 use words::Moment;
 
@@ -24,62 +23,57 @@ fn put_two(out: &mut [u8], sign: u8, n: u64) -> usize
     ensures { Puts (sign ∷ wide 2 n) out.old out.new result × (result ≡ 3) }
 {
     let a = put_byte(out, sign);
-    let k = least(a, out.len());
-    let m = put_wide(&mut out[k..], 2, n);
-    a + m
+    let k = a.min(out.len());
+    a + put_wide(&mut out[k..], 2, n)
 }
 
 fn put_date(out: &mut [u8], x: Moment) -> usize
     ensures { Puts (date_bytes (moment_of x)) out.old out.new result × (result ≡ 10) }
 {
-    let a = put_wide(out, 4, x.year as u64);
-    let k = least(a, out.len());
-    let b = a + put_two(&mut out[k..], b'-', x.month as u64);
-    let j = least(b, out.len());
-    let c = put_two(&mut out[j..], b'-', x.day as u64);
-    b + c
+    let a = put_wide(out, 4, u64::from(x.year));
+    let k = a.min(out.len());
+    let b = a + put_two(&mut out[k..], b'-', u64::from(x.month));
+    let j = b.min(out.len());
+    b + put_two(&mut out[j..], b'-', u64::from(x.day))
 }
 
 // HH:MM:SS
 fn put_clock(out: &mut [u8], x: Moment) -> usize
     ensures { Puts (wide 2 x.hour ++ ((ascii ":" ++ wide 2 x.minute) ++ (ascii ":" ++ wide 2 x.second))) out.old out.new result × (result ≡ 8) }
 {
-    let a = put_wide(out, 2, x.hour as u64);
-    let k = least(a, out.len());
-    let b = a + put_two(&mut out[k..], b':', x.minute as u64);
-    let j = least(b, out.len());
-    let c = put_two(&mut out[j..], b':', x.second as u64);
-    b + c
+    let a = put_wide(out, 2, u64::from(x.hour));
+    let k = a.min(out.len());
+    let b = a + put_two(&mut out[k..], b':', u64::from(x.minute));
+    let j = b.min(out.len());
+    b + put_two(&mut out[j..], b':', u64::from(x.second))
 }
 
-// The decimals of a second without the zeros that end them.
-fn trim(n: u32) -> Fraction
+// The decimals of a second without the zeros that end them, where some are left.
+fn trim(n: u32) -> Option<Fraction>
     ensures { Trimmed n result }
 {
-    let mut v = n as u64;
-    let mut k = 9;
-    while 0 < k {
+    let mut v = u64::from(n);
+    for k in (0..9).rev() {
         if v % 10 != 0 {
-            return Fraction { size: k, value: v };
+            return Some(Fraction {
+                size: k + 1,
+                value: v,
+            });
         }
-        v = v / 10;
-        k -= 1;
+        v /= 10;
     }
-    Fraction { size: 0, value: v }
+    None
 }
 
 fn put_fraction(out: &mut [u8], n: u32) -> usize
     ensures { Puts (fraction (significant (wide 9 n))) out.old out.new result × (result ≤ 10) }
 {
-    let f = trim(n);
-    let s = f.size;
-    if s == 0 {
+    let Some(f) = trim(n) else {
         return 0;
-    }
+    };
     let a = put_byte(out, b'.');
-    let k = least(a, out.len());
-    let m = put_wide(&mut out[k..], s, f.value);
-    a + m
+    let k = a.min(out.len());
+    a + put_wide(&mut out[k..], f.size, f.value)
 }
 
 fn zone_sign(west: bool) -> u8
@@ -88,28 +82,25 @@ fn zone_sign(west: bool) -> u8
     if west { b'-' } else { b'+' }
 }
 
-fn put_zone(out: &mut [u8], west: bool, offset: u16) -> usize
-    ensures { Puts (zone (whole west offset)) out.old out.new result × (result ≤ 6) }
+fn put_zone(out: &mut [u8], x: Moment) -> usize
+    ensures { Puts (zone (whole x.west x.offset)) out.old out.new result × (result ≤ 6) }
 {
-    if offset == 0 {
+    if x.offset == 0 {
         return put_byte(out, b'Z');
     }
-    let sign = zone_sign(west);
-    let a = put_two(out, sign, (offset / 60) as u64);
-    let k = least(a, out.len());
-    let m = put_two(&mut out[k..], b':', (offset % 60) as u64);
-    a + m
+    let a = put_two(out, zone_sign(x.west), u64::from(x.offset / 60));
+    let k = a.min(out.len());
+    a + put_two(&mut out[k..], b':', u64::from(x.offset % 60))
 }
 
 fn put_time(out: &mut [u8], x: Moment) -> usize
     ensures { Puts (time_bytes (zone (whole x.west x.offset)) (moment_of x)) out.old out.new result × (result ≤ 24) }
 {
     let a = put_clock(out, x);
-    let k = least(a, out.len());
+    let k = a.min(out.len());
     let b = a + put_fraction(&mut out[k..], x.nanoseconds);
-    let j = least(b, out.len());
-    let c = put_zone(&mut out[j..], x.west, x.offset);
-    b + c
+    let j = b.min(out.len());
+    b + put_zone(&mut out[j..], x)
 }
 
 pub fn put_moment(out: &mut [u8], x: Moment) -> usize
@@ -122,9 +113,8 @@ pub fn put_moment(out: &mut [u8], x: Moment) -> usize
         return put_time(out, x);
     }
     let a = put_date(out, x);
-    let k = least(a, out.len());
+    let k = a.min(out.len());
     let b = a + put_byte(&mut out[k..], b'T');
-    let j = least(b, out.len());
-    let c = put_time(&mut out[j..], x);
-    b + c
+    let j = b.min(out.len());
+    b + put_time(&mut out[j..], x)
 }

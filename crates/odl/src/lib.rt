@@ -2,6 +2,7 @@
 // are set on every call, and the contract says of them and of the lent room what the rules say.
 #![tactic(auto)]
 
+ghost use Rattle.std.specs.Prelude.{◌≡◌};
 ghost use Rattle.rules.specs.Modes.{base};
 ghost use Rattle.rules.specs.Reading.{Answered};
 ghost use Rattle.rules.specs.Writing.{Writes};
@@ -10,10 +11,20 @@ ghost use Rattle.rules.specs.Book as rule;
 ghost use Rattle.rules.specs.Book.{Takes};
 ghost use Rattle.classes.specs.Places.{as_span};
 
+use answers::Answer;
 use book::{Book, take};
 use queries::{find, name_span, text};
 use statements::read;
 use writer::write;
+
+// An answer's place and length are set, and its code is handed back.
+fn told<A: Answer>(answer: &A, place: &mut usize, length: &mut usize) -> u8
+    ensures { says result place.new length.new ≡ A.said answer.now }
+{
+    *place = answer.place();
+    *length = answer.length();
+    answer.code()
+}
 
 #[unsafe(no_mangle)]
 pub extern "C" fn odl_read(
@@ -24,10 +35,7 @@ pub extern "C" fn odl_read(
 ) -> u8
     ensures { Answered base label.now table.old (says result place.new length.new) table.new }
 {
-    let r = read(label, table);
-    *place = statements::place_of(r);
-    *length = statements::length_of(r);
-    statements::code_of(r)
+    told(&read(label, table), place, length)
 }
 
 #[unsafe(no_mangle)]
@@ -40,10 +48,7 @@ pub extern "C" fn odl_write(
 ) -> u8
     ensures { Writes label.now table.now out.old (says result place.new length.new) out.new }
 {
-    let w = write(label, table, out);
-    *place = writer::place_of(w);
-    *length = writer::length_of(w);
-    writer::code_of(w)
+    told(&write(label, table, out), place, length)
 }
 
 #[unsafe(no_mangle)]
@@ -57,10 +62,7 @@ pub extern "C" fn odl_text(
 ) -> u8
     ensures { Texted label.now table.now row out.old (says result place.new length.new) out.new }
 {
-    let t = text(label, table, row, out);
-    *place = queries::text_place(t);
-    *length = queries::text_length(t);
-    queries::text_code(t)
+    told(&text(label, table, row, out), place, length)
 }
 
 #[unsafe(no_mangle)]
@@ -74,10 +76,7 @@ pub extern "C" fn odl_find(
 ) -> u8
     ensures { Sought label.now table.now name.now row (says result place.new at.new) }
 {
-    let f = find(label, table, name, row);
-    *place = queries::found_place(f);
-    *at = queries::found_row(f);
-    queries::found_code(f)
+    told(&find(label, table, name, row), place, at)
 }
 
 #[unsafe(no_mangle)]
@@ -105,12 +104,7 @@ pub extern "C" fn odl_take(
 ) -> u8
     ensures { Takes (rule.book book.old) label.now table.old (says result place.new length.new) (rule.book book.new) table.new }
 {
-    let before = *book;
-    let t = take(Book { counts: before }, label, table);
-    let kept = t.book;
-    let after = kept.counts;
-    *book = after;
-    *place = t.place;
-    *length = t.length;
-    t.code
+    let t = take(Book { counts: *book }, label, table);
+    *book = t.book.counts;
+    told(&t.answer, place, length)
 }

@@ -1,10 +1,10 @@
 -- The laws of parts: a part that fits, a part after a part, parts that are equal.
-use Prim.Native.Nat.{ℕ, zero, suc, ◌+◌, ◌-◌, ◌≤◌, ◌<◌, min}
+use Prim.Native.Nat.{ℕ, zero, suc, ◌+◌, ◌-◌, ◌≤◌, min}
 use mathlib.Core.Path.{◌≡◌, refl, sym, ap, ◌∙◌, subst}
 use mathlib.Core.List.{List, [], ◌∷◌, ◌++◌, append_assoc, append-nil}
 use native.Mathlib.Nat.{le_refl}
 use native.Mathlib.Omega.{arith}
-use lib.ListN.{length, set, take, drop, length-append, length-drop, length-take, drop_of_length-le}
+use lib.ListN.{length, take, drop, length-append, length-drop, length-take, drop_of_length-le}
 use lib.Seq.{take_all, take-nil, take_at, drop_at, drop-drop}
 use borrow.Rule.Slice.PartMut.{mid_of, put_mid}
 use Rattle.output.specs.Puts.{laid, Puts}
@@ -22,15 +22,6 @@ fits {part} {room} p h = p.bytes ∙ ap (λ (l : List ℕ). l ++ drop (length pa
 
 pub nothing : (room : List ℕ) → Puts [] room room 0
 nothing room = record { count = refl; bytes = ap (λ (l : List ℕ). l ++ room) (sym (take-nil (length room))) }
-
--- no byte fits an empty room
-pub no_room : (b : ℕ) (room : List ℕ) → length room < 1 → Puts (b ∷ []) room room 1
-no_room b [] h = record { count = refl; bytes = refl }
-no_room b (a ∷ room) h = absurd (omega arith)
-
-pub one_byte : (b : ℕ) (room : List ℕ) → 1 ≤ length room → Puts (b ∷ []) room (set room 0 b) 1
-one_byte b [] h = absurd (omega arith)
-one_byte b (a ∷ room) h = record { count = refl; bytes = ap (λ (l : List ℕ). b ∷ (l ++ room)) (sym (take-nil (length room))) }
 
 pub same_part : {a b room out : List ℕ} {n : ℕ} → a ≡ b → Puts a room out n → Puts b room out n
 same_part {room = room} {out = out} {n = n} e p = subst (λ (w : List ℕ). Puts w room out n) e p

@@ -1,12 +1,15 @@
 -- A text reassembled byte by byte: what each byte leaves, and where a run holds a line end.
 use Prim.Native.Nat.{ℕ, ◌+◌, ◌-◌, ◌≤◌, ◌<◌, min}
 use mathlib.Core.Bool.{Bool, true, false, true≢false, cond, not, ◌&&◌, ◌||◌, and-false}
-use mathlib.Core.Path.{◌≡◌, refl, ap, sym, ◌∙◌, subst}
+use Rattle.std.specs.Prelude.{Option, Some, None}
+use mathlib.Core.Path.{◌≡◌, refl, ap, sym, ◌∙◌}
 use mathlib.Core.List.{List, [], ◌∷◌, ◌++◌, append_assoc, append-nil}
 use native.Mathlib.Omega.{arith}
 use borrow.Author.Tests.{not-true, not-false, eq-eqb, ne_eqb}
 use lib.Dec.{leb, eqb}
-use lib.ListN.{length, get_or, drop, drop_of_length-le}
+use lib.ListN.{length, get_or, take, drop, length-drop, drop_of_length-le}
+use lib.Seq.{take_all}
+use native.Mathlib.Nat.{le_refl}
 use borrow.Rule.Slice.PartMut.{mid_of, put_mid}
 use Rattle.rules.specs.Bytes.{spacing, line_end, front}
 use Rattle.rules.specs.Elements.{is_blank}
@@ -14,8 +17,9 @@ use Rattle.rules.specs.Meaning.{kept, keep, breaks, join, reassemble}
 use Rattle.rules.proofs.Tables.Tests.{cond-case}
 use Rattle.classes.proofs.Runs.{unroll}
 use Rattle.output.specs.Puts.{Puts}
-use Rattle.output.specs.Joins.{maybe, Known, Turned}
-use Rattle.output.specs.declared.texts.Turn.{Turn}
+use Rattle.output.specs.Joins.{maybe, dealt, Known, Turned}
+use Rattle.output.specs.declared.texts.Run.{Run}
+use Rattle.output.specs.declared.texts.Run.TheVariants as runs
 use Rattle.output.proofs.Laws.{nothing, onward, long, same_part}
 
 -- ---- bytes that are passed over, and bytes that are kept
@@ -34,30 +38,30 @@ keep_none w i h = rw (drop_of_length-le w h)
 
 -- ---- whether a line end stands next
 
-pub record Next (w : List ℕ) (from i : ℕ) : Type 0 where
-  pub within : i ≤ length w
-  pub rest : front line_end (keep (drop i w)) ≡ front line_end (keep (drop from w))
+-- the first i bytes are passed over
+pub record Next (w : List ℕ) (i : ℕ) : Type 0 where
+  pub rest : front line_end (keep (drop i w)) ≡ front line_end (keep w)
 
-pub next_start : (w : List ℕ) (from : ℕ) → from ≤ length w → Next w from from
-next_start w from h = record { within = h; rest = refl }
+pub next_start : (w : List ℕ) → Next w 0
+next_start w = record { rest = refl }
 
-pub next_turn : (w : List ℕ) (from i : ℕ) (t : Bool) → Next w from i → i < length w → t ≡ kept (get_or w i 0) → t ≡ false → Next w from (i + 1)
-next_turn w from i t v h e f = record { within = omega arith; rest = ap (front line_end) (sym (keep_not w i h (sym e ∙ f))) ∙ v.rest }
+pub next_turn : (w : List ℕ) (i : ℕ) (t : Bool) → Next w i → i < length w → t ≡ kept (get_or w i 0) → t ≡ false → Next w (i + 1)
+next_turn w i t v h e f = record { rest = ap (front line_end) (sym (keep_not w i h (sym e ∙ f))) ∙ v.rest }
 
-pub next_is : (w : List ℕ) (from i : ℕ) (t r : Bool) → Next w from i → i < length w → t ≡ kept (get_or w i 0) → t ≡ true → r ≡ line_end (get_or w i 0) → r ≡ front line_end (keep (drop from w))
-next_is w from i t r v h e f g = g ∙ sym (ap (front line_end) (keep_yes w i h (sym e ∙ f))) ∙ v.rest
+pub next_is : (w : List ℕ) (i : ℕ) (t r : Bool) → Next w i → i < length w → t ≡ kept (get_or w i 0) → t ≡ true → r ≡ line_end (get_or w i 0) → r ≡ front line_end (keep w)
+next_is w i t r v h e f g = g ∙ sym (ap (front line_end) (keep_yes w i h (sym e ∙ f))) ∙ v.rest
 
-pub next_end : (w : List ℕ) (from i : ℕ) → Next w from i → length w ≤ i → false ≡ front line_end (keep (drop from w))
-next_end w from i v h = sym (ap (front line_end) (keep_none w i h)) ∙ v.rest
+pub next_end : (w : List ℕ) (i : ℕ) → Next w i → length w ≤ i → false ≡ front line_end (keep w)
+next_end w i v h = sym (ap (front line_end) (keep_none w i h)) ∙ v.rest
 
 -- ---- whether a run holds a line end
 
-pub record Breaks (w : List ℕ) (from i : ℕ) : Type 0 where
-  pub within : i ≤ length w
-  pub rest : breaks (keep (drop i w)) ≡ breaks (keep (drop from w))
+-- no line end, and nothing that is shown, stands among the first i bytes
+pub record Breaks (w : List ℕ) (i : ℕ) : Type 0 where
+  pub rest : breaks (keep (drop i w)) ≡ breaks (keep w)
 
-pub breaks_start : (w : List ℕ) (from : ℕ) → from ≤ length w → Breaks w from from
-breaks_start w from h = record { within = h; rest = refl }
+pub breaks_start : (w : List ℕ) → Breaks w 0
+breaks_start w = record { rest = refl }
 
 -- a line end is kept; a byte that is neither that nor shown is spacing, or passed over
 ends_kept : (b : ℕ) → line_end b ≡ true → kept b ≡ true
@@ -95,21 +99,18 @@ kept_at : (w : List ℕ) (i : ℕ) → i < length w → keep (drop i w) ≡ cond
 unfolding keep
 kept_at w i h = ap keep (unroll w i h)
 
-pub breaks_turn : (w : List ℕ) (from i : ℕ) (t u : Bool) → Breaks w from i → i < length w → t ≡ line_end (get_or w i 0) → t ≡ false → u ≡ (kept (get_or w i 0) && not (is_blank (get_or w i 0))) → u ≡ false → Breaks w from (i + 1)
-breaks_turn w from i t u v h e f g k = record {
-  within = omega arith;
-  rest = sym (ap breaks (kept_at w i h) ∙ passed (get_or w i 0) (keep (drop (i + 1) w)) (sym e ∙ f) (sym g ∙ k)) ∙ v.rest;
-}
+pub breaks_turn : (w : List ℕ) (i : ℕ) (t u : Bool) → Breaks w i → i < length w → t ≡ line_end (get_or w i 0) → t ≡ false → u ≡ (kept (get_or w i 0) && not (is_blank (get_or w i 0))) → u ≡ false → Breaks w (i + 1)
+breaks_turn w i t u v h e f g k = record { rest = sym (ap breaks (kept_at w i h) ∙ passed (get_or w i 0) (keep (drop (i + 1) w)) (sym e ∙ f) (sym g ∙ k)) ∙ v.rest }
 
-pub breaks_yes : (w : List ℕ) (from i : ℕ) (t : Bool) → Breaks w from i → i < length w → t ≡ line_end (get_or w i 0) → t ≡ true → true ≡ breaks (keep (drop from w))
-breaks_yes w from i t v h e f = sym (ap breaks (kept_at w i h) ∙ breaks_end (get_or w i 0) (keep (drop (i + 1) w)) (sym e ∙ f)) ∙ v.rest
+pub breaks_yes : (w : List ℕ) (i : ℕ) (t : Bool) → Breaks w i → i < length w → t ≡ line_end (get_or w i 0) → t ≡ true → true ≡ breaks (keep w)
+breaks_yes w i t v h e f = sym (ap breaks (kept_at w i h) ∙ breaks_end (get_or w i 0) (keep (drop (i + 1) w)) (sym e ∙ f)) ∙ v.rest
 
-pub breaks_no : (w : List ℕ) (from i : ℕ) (u : Bool) → Breaks w from i → i < length w → u ≡ (kept (get_or w i 0) && not (is_blank (get_or w i 0))) → u ≡ true → false ≡ breaks (keep (drop from w))
-breaks_no w from i u v h g k = sym (ap breaks (kept_at w i h) ∙ shown (get_or w i 0) (keep (drop (i + 1) w)) (sym g ∙ k)) ∙ v.rest
+pub breaks_no : (w : List ℕ) (i : ℕ) (u : Bool) → Breaks w i → i < length w → u ≡ (kept (get_or w i 0) && not (is_blank (get_or w i 0))) → u ≡ true → false ≡ breaks (keep w)
+breaks_no w i u v h g k = sym (ap breaks (kept_at w i h) ∙ shown (get_or w i 0) (keep (drop (i + 1) w)) (sym g ∙ k)) ∙ v.rest
 
-pub breaks_past : (w : List ℕ) (from i : ℕ) → Breaks w from i → length w ≤ i → false ≡ breaks (keep (drop from w))
+pub breaks_past : (w : List ℕ) (i : ℕ) → Breaks w i → length w ≤ i → false ≡ breaks (keep w)
 unfolding breaks
-breaks_past w from i v h = sym (ap breaks (keep_none w i h)) ∙ v.rest
+breaks_past w i v h = sym (ap breaks (keep_none w i h)) ∙ v.rest
 
 -- ---- a byte's turn
 
@@ -123,100 +124,89 @@ run_rest c s y z = go (spacing c) (line_end c) (breaks s) y z
     go false true b y z = absurd (true≢false z)
     go false false b y z = absurd (true≢false (sym y))
 
-known_not : (w : List ℕ) (i : ℕ) → Known w i false
-known_not w i = record { unbroken = λ e. absurd (true≢false (sym e)) }
+known_not : (w : List ℕ) (i : ℕ) {run : Run} → (run ≡ runs.Unbroken → ⊥) → Known w i run
+known_not w i h = record { unbroken = λ e. absurd (h e) }
 
-pub turned_as : {w : List ℕ} {i : ℕ} {dealt : Bool} {t u : Turn} → t ≡ u → Turned w i dealt u → Turned w i dealt t
-turned_as {w} {i} {dealt} e p = subst (λ (v : Turn). Turned w i dealt v) (sym e) p
+-- a slice from a place on, as the code takes it
+onwards : (w : List ℕ) (i : ℕ) → take (length w - i) (drop i w) ≡ drop i w
+onwards w i = take_all (length w - i) (drop i w) (rw (length-drop i w) (le_refl _))
 
-module _ (w : List ℕ) (i : ℕ) {t : Bool} where
-  pub turn_passed : {dealt known : Bool} → Known w i known → i < length w → t ≡ kept (get_or w i 0) → not t ≡ true → Turned w i dealt (record { put = false; byte = 0; dealt = dealt; known = known })
-  turn_passed {dealt} v h e f =
+module _ (w : List ℕ) (i : ℕ) (t : Bool) where
+  pub turn_passed : {run : Run} → Known w i run → i < length w → t ≡ kept (get_or w i 0) → not t ≡ true → Turned w i run None run
+  turn_passed {run} v h e f =
       let k : keep (drop i w) ≡ keep (drop (i + 1) w) = keep_not w i h (sym e ∙ not-true t f) in
-      record { joins = ap (join dealt) k; knows = record { unbroken = λ y. ap breaks (sym k) ∙ v.unbroken y } }
+      record { joins = ap (join (dealt run)) k; knows = record { unbroken = λ y. ap breaks (sym k) ∙ v.unbroken y } }
 
-  module _ (h : i < length w) (e : t ≡ kept (get_or w i 0)) (f : not t ≡ false) where
+  module _ (u : Bool) (h : i < length w) (e : t ≡ kept (get_or w i 0)) (f : not t ≡ false) (g : u ≡ is_blank (get_or w i 0)) where
     keeps : keep (drop i w) ≡ get_or w i 0 ∷ keep (drop (i + 1) w)
     keeps = keep_yes w i h (sym e ∙ not-false t f)
 
-    pub turn_dealt : {dealt u : Bool} → u ≡ is_blank (get_or w i 0) → u ≡ true → dealt ≡ true → Turned w i dealt (record { put = false; byte = 0; dealt = true; known = false })
+    pub turn_dealt : {run : Run} → u ≡ true → run ≡ runs.Dealt → Turned w i run None runs.Dealt
     unfolding join
-    turn_dealt g j d = record { joins = rw (d, keeps, ← g, j); knows = known_not w (i + 1) }
+    turn_dealt j d = record { joins = rw (d, keeps, ← g, j); knows = known_not w (i + 1) (λ z. cc) }
 
-    pub turn_breaks : {r dealt u : Bool} → u ≡ is_blank (get_or w i 0) → u ≡ true → dealt ≡ false → r ≡ breaks (keep (drop i w)) → r ≡ true → Turned w i dealt (record { put = true; byte = 32; dealt = true; known = false })
+    pub turn_breaks : {run : Run} {r : Bool} → u ≡ true → run ≡ runs.Fresh → r ≡ breaks (keep (take (length w - i) (drop i w))) → r ≡ true → Turned w i run (Some 32) runs.Dealt
     unfolding join
-    turn_breaks g j d b c =
-        let k : breaks (get_or w i 0 ∷ keep (drop (i + 1) w)) ≡ true = ap breaks (sym keeps) ∙ sym b ∙ c in
-        record { joins = rw (d, keeps, ← g, j, k); knows = known_not w (i + 1) }
+    turn_breaks j d b c =
+        let k : breaks (get_or w i 0 ∷ keep (drop (i + 1) w)) ≡ true = ap breaks (sym keeps) ∙ sym (b ∙ ap (λ l. breaks (keep l)) (onwards w i)) ∙ c in
+        record { joins = rw (d, keeps, ← g, j, k); knows = known_not w (i + 1) (λ z. cc) }
 
-    stays : {dealt u : Bool} → u ≡ is_blank (get_or w i 0) → u ≡ true → dealt ≡ false → breaks (keep (drop i w)) ≡ false → Turned w i dealt (record { put = true; byte = get_or w i 0; dealt = false; known = true })
+    stays : {run : Run} → u ≡ true → dealt run ≡ false → breaks (keep (drop i w)) ≡ false → Turned w i run (Some (get_or w i 0)) runs.Unbroken
     unfolding join
-    stays g j d b =
+    stays j d b =
         let k : breaks (get_or w i 0 ∷ keep (drop (i + 1) w)) ≡ false = ap breaks (sym keeps) ∙ b in
         record { joins = rw (d, keeps, ← g, j, k); knows = record { unbroken = λ y. run_rest (get_or w i 0) (keep (drop (i + 1) w)) (sym g ∙ j) k } }
 
-    pub turn_unbroken : {r dealt u : Bool} → u ≡ is_blank (get_or w i 0) → u ≡ true → dealt ≡ false → r ≡ breaks (keep (drop i w)) → r ≡ false →
-        Turned w i dealt (record { put = true; byte = get_or w i 0; dealt = false; known = true })
-    turn_unbroken g j d b c = stays g j d (sym b ∙ c)
+    pub turn_unbroken : {run : Run} {r : Bool} → u ≡ true → run ≡ runs.Fresh → r ≡ breaks (keep (take (length w - i) (drop i w))) → r ≡ false → Turned w i run (Some (get_or w i 0)) runs.Unbroken
+    turn_unbroken j d b c = stays j (ap dealt d) (sym (b ∙ ap (λ l. breaks (keep l)) (onwards w i)) ∙ c)
 
-    pub turn_known : {known dealt u : Bool} → u ≡ is_blank (get_or w i 0) → u ≡ true → dealt ≡ false → Known w i known → known ≡ true → Turned w i dealt (record { put = true; byte = get_or w i 0; dealt = false; known = true })
-    turn_known g j d v c = stays g j d (v.unbroken c)
+    pub turn_known : {run : Run} → u ≡ true → Known w i run → run ≡ runs.Unbroken → Turned w i run (Some (get_or w i 0)) runs.Unbroken
+    turn_known j v d = stays j (ap dealt d) (v.unbroken d)
 
     -- a byte that is no blank
-    pub turn_vanish : {r dealt u : Bool} → u ≡ is_blank (get_or w i 0) → u ≡ false → get_or w i 0 ≡ 45 → r ≡ front line_end (keep (drop (i + 1) w)) → r ≡ true →
-        Turned w i dealt (record { put = false; byte = 0; dealt = true; known = false })
+    pub turn_vanish : {run : Run} {r : Bool} → u ≡ false → get_or w i 0 ≡ 45 → r ≡ front line_end (keep (take (length w - (i + 1)) (drop (i + 1) w))) → r ≡ true → Turned w i run None runs.Dealt
     unfolding join
-    turn_vanish g j m b c =
-        let q : (eqb (get_or w i 0) 45 && front line_end (keep (drop (i + 1) w))) ≡ true = rw (eq-eqb (get_or w i 0) 45 m, ← b, c) in
-        record { joins = rw (keeps, ← g, j, q); knows = known_not w (i + 1) }
+    turn_vanish j m b c =
+        let q : (eqb (get_or w i 0) 45 && front line_end (keep (drop (i + 1) w))) ≡ true = rw (eq-eqb (get_or w i 0) 45 m, ← onwards w (i + 1), ← b, c) in
+        record { joins = rw (keeps, ← g, j, q); knows = known_not w (i + 1) (λ z. cc) }
 
-    byte_stays : {dealt u : Bool} → u ≡ is_blank (get_or w i 0) → u ≡ false → (eqb (get_or w i 0) 45 && front line_end (keep (drop (i + 1) w))) ≡ false →
-        Turned w i dealt (record { put = true; byte = get_or w i 0; dealt = false; known = false })
+    byte_stays : {run : Run} → u ≡ false → (eqb (get_or w i 0) 45 && front line_end (keep (drop (i + 1) w))) ≡ false → Turned w i run (Some (get_or w i 0)) runs.Fresh
     unfolding join
-    byte_stays g j q = record { joins = rw (keeps, ← g, j, q); knows = known_not w (i + 1) }
+    byte_stays j q = record { joins = rw (keeps, ← g, j, q); knows = known_not w (i + 1) (λ z. cc) }
 
-    pub turn_hyphen : {r dealt u : Bool} → u ≡ is_blank (get_or w i 0) → u ≡ false → get_or w i 0 ≡ 45 → r ≡ front line_end (keep (drop (i + 1) w)) → r ≡ false →
-        Turned w i dealt (record { put = true; byte = get_or w i 0; dealt = false; known = false })
-    turn_hyphen g j m b c = byte_stays g j (rw (← b, c) (and-false (eqb (get_or w i 0) 45)))
+    pub turn_hyphen : {run : Run} {r : Bool} → u ≡ false → r ≡ front line_end (keep (take (length w - (i + 1)) (drop (i + 1) w))) → r ≡ false → Turned w i run (Some (get_or w i 0)) runs.Fresh
+    turn_hyphen j b c = byte_stays j (rw (← onwards w (i + 1), ← b, c) (and-false (eqb (get_or w i 0) 45)))
 
-    pub turn_other : {dealt u : Bool} → u ≡ is_blank (get_or w i 0) → u ≡ false → (get_or w i 0 ≡ 45 → ⊥) → Turned w i dealt (record { put = true; byte = get_or w i 0; dealt = false; known = false })
-    turn_other g j m = byte_stays g j (rw (ne_eqb (get_or w i 0) 45 m))
+    pub turn_other : {run : Run} → u ≡ false → (get_or w i 0 ≡ 45 → ⊥) → Turned w i run (Some (get_or w i 0)) runs.Fresh
+    turn_other j m = byte_stays j (rw (ne_eqb (get_or w i 0) 45 m))
 
 -- ---- all turns
 
-pub maybe_yes : {put : Bool} {b n : ℕ} {x y : List ℕ} → put ≡ true → Puts (b ∷ []) x y n → Puts (maybe put b) x y n × (n ≤ 1)
-maybe_yes h p = (rw h p, omega (arith, p.count))
-
-pub maybe_no : {put : Bool} (b : ℕ) {x : List ℕ} → put ≡ false → Puts (maybe put b) x x 0 × (0 ≤ 1)
-maybe_no b {x} h = (rw h (nothing x), omega arith)
-
-pub record Joining (w room out : List ℕ) (n i : ℕ) (dealt known : Bool) : Type 0 where
-  pub within : i ≤ length w
+pub record Joining (w room out : List ℕ) (n i : ℕ) (run : Run) : Type 0 where
   pub less : n ≤ i
   pub done : List ℕ
   pub puts : Puts done room out n
   pub same : length out ≡ length room
-  pub rest : reassemble w ≡ done ++ join dealt (keep (drop i w))
-  pub knows : Known w i known
+  pub rest : reassemble w ≡ done ++ join (dealt run) (keep (drop i w))
+  pub knows : Known w i run
 
-pub join_start : (w room : List ℕ) → Joining w room room 0 0 false false
+pub join_start : (w room : List ℕ) → Joining w room room 0 0 runs.Fresh
 unfolding reassemble
-join_start w room = record { within = omega arith; less = omega arith; done = []; puts = nothing room; same = refl; rest = refl; knows = known_not w 0 }
+join_start w room = record { less = omega arith; done = []; puts = nothing room; same = refl; rest = refl; knows = known_not w 0 (λ z. cc) }
 
-pub join_turn : (w room out p : List ℕ) (n m k i : ℕ) (dealt known : Bool) (t : Turn) → Joining w room out n i dealt known → i < length w → Turned w i dealt t → k ≡ min n (length out) →
-    Puts (maybe t.put t.byte) (mid_of k (length out - k) out) p m × (m ≤ 1) → Joining w room (put_mid k (length out - k) out p) (n + m) (i + 1) t.dealt t.known
-join_turn w room out p n m k i dealt known t v h q e f = record {
-  within = omega arith;
+pub join_turn : (w room out p : List ℕ) (n m k i : ℕ) (run next : Run) (b : Option ℕ) → Joining w room out n i run → Turned w i run b next → k ≡ min n (length out) →
+    Puts (maybe b) (mid_of k (length out - k) out) p m × (m ≤ 1) → Joining w room (put_mid k (length out - k) out p) (n + m) (i + 1) next
+join_turn w room out p n m k i run next b v q e f = record {
   less = omega (arith, v.less, f.1);
-  done = v.done ++ maybe t.put t.byte;
+  done = v.done ++ maybe b;
   puts = onward v.puts e f.0;
   same = long (onward v.puts e f.0);
-  rest = v.rest ∙ ap (λ (l : List ℕ). v.done ++ l) q.joins ∙ sym (append_assoc v.done (maybe t.put t.byte) (join t.dealt (keep (drop (i + 1) w))));
+  rest = v.rest ∙ ap (λ (l : List ℕ). v.done ++ l) q.joins ∙ sym (append_assoc v.done (maybe b) (join (dealt next) (keep (drop (i + 1) w))));
   knows = q.knows;
 }
 
-pub join_end : (w room out : List ℕ) (n i : ℕ) (dealt known : Bool) → Joining w room out n i dealt known → length w ≤ i → Puts (reassemble w) room out n × (n ≤ length w)
+pub join_end : (w room out : List ℕ) (n i : ℕ) (run : Run) → Joining w room out n i run → i ≡ length w → Puts (reassemble w) room out n × (n ≤ length w)
 unfolding join
-join_end w room out n i dealt known v h =
-    let e : reassemble w ≡ v.done = v.rest ∙ ap (λ (l : List ℕ). v.done ++ join dealt l) (keep_none w i h) ∙ append-nil v.done in
-    (same_part (sym e) v.puts, omega (arith, v.less, v.within))
+join_end w room out n i run v h =
+    let e : reassemble w ≡ v.done = v.rest ∙ ap (λ (l : List ℕ). v.done ++ join (dealt run) l) (keep_none w i (omega arith)) ∙ append-nil v.done in
+    (same_part (sym e) v.puts, omega (arith, v.less))

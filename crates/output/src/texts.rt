@@ -1,28 +1,27 @@
 // A text reassembled (12.5.3.1). Control bytes are passed over wherever the text is looked at, so they neither part a hyphen from its line end nor split a run; the
 // end of a run is looked for once, at its first byte.
-ghost use Rattle.std.specs.Prelude.{◌≡◌, not, ◌&&◌, ◌≤◌, ◌<◌, ◌+◌, length, drop};
+ghost use Rattle.std.specs.Prelude.{◌≡◌, not, ◌&&◌, ◌≤◌, ◌<◌, length};
 ghost use Rattle.rules.specs.Bytes.{line_end, front};
 ghost use Rattle.rules.specs.Elements.{is_blank};
 ghost use Rattle.rules.specs.Meaning.{kept, keep, breaks, reassemble};
 ghost use Rattle.output.specs.Puts.{Puts};
-ghost use Rattle.output.specs.Joins.{maybe, made, Known, Turned};
+ghost use Rattle.output.specs.Joins.{maybe, Known, Turned};
 
 use crate::bytes::put_byte;
-use classes::{is_blank, is_line_end, least};
+use classes::{is_blank, is_line_end};
 
-// What a byte of a text leaves: a byte or none; whether the run that it stands in has been dealt with, or is known to hold no line end.
+// What is known of the run of blanks that the next byte may stand in: nothing yet; that it has been dealt with; that it holds no line end.
 #[derive(Clone, Copy)]
-pub struct Turn {
-    pub put: bool,
-    pub byte: u8,
-    pub dealt: bool,
-    pub known: bool,
+pub enum Run {
+    Fresh,
+    Dealt,
+    Unbroken,
 }
 
 fn is_kept(b: u8) -> bool
     ensures { result ≡ kept b }
 {
-    is_blank(b) | ((b >= b' ') & !(b == 127))
+    is_blank(b) | ((b >= b' ') & (b != 127))
 }
 
 // A byte that is kept and is no blank.
@@ -32,105 +31,76 @@ fn is_shown(b: u8) -> bool
     is_kept(b) & !is_blank(b)
 }
 
-// Whether the run of blanks from a place on holds a line end.
-fn run_breaks(w: &[u8], from: usize) -> bool
-    requires { from ≤ length w.now }
-    ensures { result ≡ breaks (keep (drop from w.now)) }
+// Whether the run of blanks at the front holds a line end.
+fn run_breaks(w: &[u8]) -> bool
+    ensures { result ≡ breaks (keep w.now) }
 {
-    let mut i = from;
-    while i < w.len() {
-        let b = w[i];
-        if is_line_end(b) {
+    for b in w {
+        if is_line_end(*b) {
             return true;
         }
-        if is_shown(b) {
+        if is_shown(*b) {
             return false;
         }
-        i += 1;
     }
     false
 }
 
 // Whether a line end stands next.
-fn line_ends(w: &[u8], from: usize) -> bool
-    requires { from ≤ length w.now }
-    ensures { result ≡ front line_end (keep (drop from w.now)) }
+fn line_ends(w: &[u8]) -> bool
+    ensures { result ≡ front line_end (keep w.now) }
 {
-    let mut i = from;
-    while i < w.len() {
-        let b = w[i];
-        if is_kept(b) {
-            return is_line_end(b);
+    for b in w {
+        if is_kept(*b) {
+            return is_line_end(*b);
         }
-        i += 1;
     }
     false
 }
 
-fn leaves(put: bool, byte: u8, dealt: bool, known: bool) -> Turn
-    ensures { result ≡ made put byte dealt known }
-{
-    Turn {
-        put: put,
-        byte: byte,
-        dealt: dealt,
-        known: known,
-    }
-}
-
-// A byte's turn. The end of a run is looked for at the run's first byte, and what was found holds for the rest of it.
-fn turn_of(w: &[u8], i: usize, dealt: bool, known: bool) -> Turn
-    requires { (i < length w.now) × Known w.now i known }
-    ensures { Turned w.now i dealt result }
+// A byte's turn: what it leaves of the text, and what is known of a run behind it. The end of a run is looked for at the run's first byte, and what was found holds
+// for the rest of it.
+fn turn_of(w: &[u8], i: usize, run: Run) -> (Option<u8>, Run)
+    requires { (i < length w.now) × Known w.now i run }
+    ensures { Turned w.now i run result.0 result.1 }
 {
     let b = w[i];
     if !is_kept(b) {
-        return leaves(false, 0, dealt, known);
+        return (None, run);
     }
     if is_blank(b) {
-        if dealt {
-            return leaves(false, 0, true, false);
-        }
-        if known {
-            return leaves(true, b, false, true);
-        }
-        if run_breaks(w, i) {
-            return leaves(true, b' ', true, false);
-        }
-        return leaves(true, b, false, true);
+        return match run {
+            Run::Dealt => (None, Run::Dealt),
+            Run::Unbroken => (Some(b), Run::Unbroken),
+            Run::Fresh if run_breaks(&w[i..]) => (Some(b' '), Run::Dealt),
+            Run::Fresh => (Some(b), Run::Unbroken),
+        };
     }
-    if b == b'-' {
-        if line_ends(w, i + 1) {
-            return leaves(false, 0, true, false);
-        }
-        return leaves(true, b, false, false);
+    if b == b'-' && line_ends(&w[i + 1..]) {
+        return (None, Run::Dealt);
     }
-    leaves(true, b, false, false)
+    (Some(b), Run::Fresh)
 }
 
-fn put_if(out: &mut [u8], put: bool, b: u8) -> usize
-    ensures { Puts (maybe put b) out.old out.new result × (result ≤ 1) }
+fn put_if(out: &mut [u8], b: Option<u8>) -> usize
+    ensures { Puts (maybe b) out.old out.new result × (result ≤ 1) }
 {
-    if put {
-        return put_byte(out, b);
+    match b {
+        Some(b) => put_byte(out, b),
+        None => 0,
     }
-    0
 }
 
 pub fn put_reassembled(out: &mut [u8], w: &[u8]) -> usize
     ensures { Puts (reassemble w.now) out.old out.new result × (result ≤ length w.now) }
 {
     let mut n = 0;
-    let mut i = 0;
-    let mut dealt = false;
-    let mut known = false;
-    while i < w.len() {
-        let t = turn_of(w, i, dealt, known);
-        let k = least(n, out.len());
-        n += put_if(&mut out[k..], t.put, t.byte);
-        dealt = t.dealt;
-        known = t.known;
-        i += 1;
+    let mut run = Run::Fresh;
+    for i in 0..w.len() {
+        let (b, next) = turn_of(w, i, run);
+        let k = n.min(out.len());
+        n += put_if(&mut out[k..], b);
+        run = next;
     }
     n
 }

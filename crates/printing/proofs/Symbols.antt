@@ -1,19 +1,14 @@
--- Symbols bare or in apostrophes, and the signs and exponents of units.
-use Prim.Native.Nat.{ℕ, ◌≤◌}
+-- Symbols bare or in apostrophes, and the exponents of units.
+use Prim.Native.Nat.{ℕ}
 use mathlib.Core.Bool.{Bool, true, false}
 use mathlib.Core.Path.{◌≡◌, sym, ◌∙◌}
 use mathlib.Core.List.{List, [], ◌∷◌, ◌++◌, map}
-use lib.Dec.{leb}
-use lib.ListN.{length}
 use Rattle.rules.specs.Bytes.{fold}
-use Rattle.rules.specs.Written.{is_name, symbol_bytes, is_one, op_sign, exponent_bytes, decimal}
+use Rattle.rules.specs.Written.{is_name, symbol_bytes, is_one, exponent_bytes, decimal}
 use Rattle.rules.proofs.Written.Folds.{name_fold}
 use Rattle.words.specs.Says.{whole}
-use Rattle.rows.specs.Rows.{op_of}
-use Rattle.rows.specs.declared.Op.{Op}
 use Rattle.output.specs.Puts.{Puts}
 use Rattle.output.proofs.Laws.{nothing}
-use Rattle.printing.proofs.Between.{short}
 
 module _ {x y : List ℕ} {n : ℕ} {t : Bool} where
   pub bare : (w : List ℕ) → t ≡ is_name w → t ≡ true → Puts (map fold w) x y n → Puts (symbol_bytes (map fold w)) x y n
@@ -27,7 +22,3 @@ module _ {x y : List ℕ} {n : ℕ} {t : Bool} where
 
   pub raised : (m : Bool) (v : ℕ) → t ≡ is_one (whole m v) → t ≡ false → Puts (42 ∷ 42 ∷ decimal (whole m v)) x y n → Puts (exponent_bytes (whole m v)) x y n
   raised m v e h p = rw (← e, h) p
-
-module _ {x y : List ℕ} {n : ℕ} where
-  pub op_is : {q w : Op} → q ≡ w → Puts (op_sign (op_of w)) x y n → leb (length (op_sign (op_of w))) 2 ≡ true → Puts (op_sign (op_of q)) x y n × (n ≤ 2)
-  op_is h p l = (rw h p, short 2 p l)

@@ -1,8 +1,10 @@
 -- The walk to the end of a block, past the blocks within it.
 use Prim.Native.Nat.{ℕ, zero, suc, ◌≤◌}
 use mathlib.Core.Path.{◌≡◌, refl, sym, ap, subst, ◌∙◌}
+use mathlib.Core.Logic.{◌⊎◌, inl, inr}
 use mathlib.Core.List.{List, [], ◌∷◌}
 use native.Mathlib.Omega.{arith}
+use Rattle.std.specs.Prelude.{Option, Some, None}
 use lib.ListN.{length}
 use Rattle.rules.specs.Data as rule
 use Rattle.rules.proofs.Machine.Lookup.{names, plain, opens, closes, ends, way, for_way}
@@ -10,8 +12,6 @@ use Rattle.rules.proofs.Machine.Lookup as seeking
 use Rattle.rows.specs.Rows.{row_of}
 use Rattle.rows.specs.Decoding.{Decodes}
 use Rattle.rows.specs.declared.Row.{Row}
-use Rattle.rows.specs.declared.Got.{Got}
-use Rattle.rows.specs.declared.Got.TheVariants.{Nothing, Found}
 use Rattle.queries.specs.declared.places.Way.{Way}
 use Rattle.queries.specs.declared.places.Way.TheVariants.{Named, Plain, Opening, Closing, Ending}
 use Rattle.queries.specs.Walking.{TableFrom, way_of, beyond, stops, goes, step_of, BlockWalk, stopped, gone, entered, PastBlock}
@@ -60,7 +60,7 @@ module _ (lent : List ℕ) (from : ℕ) where
 
   module _ (at : ℕ) (b : Blocked lent from at) where
     -- the table ends before the block is closed
-    ends_with : {g : Got} → Decodes lent at g → step_of (length lent) g ≡ stops (length lent) → ((rs : List rule.Row) → TableFrom lent at rs → beyond 0 rs ≡ []) → PastBlock lent from (length lent)
+    ends_with : {g : Option (Row × ℕ)} → Decodes lent at g → step_of (length lent) g ≡ stops (length lent) → ((rs : List rule.Row) → TableFrom lent at rs → beyond 0 rs ≡ []) → PastBlock lent from (length lent)
     ends_with {g} d s f = record {
       walked = b.walks (length lent) (stopped g d s);
       is = λ rs l. let o = b.on rs l in subst (TableFrom lent (length lent)) (sym (o.2 ∙ f o.0 o.1)) (left_none lent);
@@ -75,12 +75,12 @@ module _ (lent : List ℕ) (from : ℕ) where
     pub block_runs_out : length lent ≤ at → PastBlock lent from (length lent)
     block_runs_out h = ends_with (none_past lent at h) refl (λ rs l. none_beyond (left_end lent at rs l h))
 
-    module _ (g : Got) (v : Decodes lent at g) where
-      pub block_cut : g ≡ Nothing → PastBlock lent from (length lent)
+    module _ (g : Option (Row × ℕ)) (v : Decodes lent at g) where
+      pub block_cut : g ≡ None → PastBlock lent from (length lent)
       block_cut f = let d = subst (Decodes lent at) f v in ends_with d refl (λ rs l. none_beyond (none_left lent rs d l))
 
-      module _ (r : Row) (next : ℕ) (f : g ≡ Found r next) where
-        d : Decodes lent at (Found r next)
+      module _ (r : Row) (next : ℕ) (f : g ≡ Some (r, next)) where
+        d : Decodes lent at (Some (r, next))
         d = subst (Decodes lent at) f v
 
         -- one row on, or past an inner block
@@ -92,9 +92,9 @@ module _ (lent : List ℕ) (from : ℕ) where
             let k = go z.rest z.left in
             (k.0, k.1, o.2 ∙ ap (beyond 0) z.is ∙ k.2)
 
-        passes : step_of (length lent) (Found r next) ≡ goes next → ((rs : List rule.Row) → beyond 0 (row_of r ∷ rs) ≡ beyond 0 rs) → Blocked lent from next
+        passes : step_of (length lent) (Some (r, next)) ≡ goes next → ((rs : List rule.Row) → beyond 0 (row_of r ∷ rs) ≡ beyond 0 rs) → Blocked lent from next
         passes s go = record {
-          walks = λ e k. b.walks e (gone (Found r next) next d s k);
+          walks = λ e k. b.walks e (gone (Some (r, next)) next d s k);
           on = on_by next (λ rs l. (rs, l, go rs));
           after = omega (arith, b.after, row_further lent at g v r next f);
           within = row_within lent at g v r next f;
@@ -105,20 +105,17 @@ module _ (lent : List ℕ) (from : ℕ) where
           unfolding beyond
           block_ends h = let k = way_told (row_of r) e h in ends_with d (rw k) (λ rs l. let z = front lent rs d l in ap (beyond 0) z.is ∙ rw k)
 
-          pub block_named : (x y : ℕ) → w ≡ Named x y → Blocked lent from next
+          pub block_goes_on : ((x : ℕ) × (y : ℕ) × (w ≡ Named x y)) ⊎ (w ≡ Plain) → Blocked lent from next
           unfolding beyond
-          block_named x y h = let k = way_told (row_of r) e h in passes (rw k) (λ rs. rw k)
-
-          pub block_plain : w ≡ Plain → Blocked lent from next
-          unfolding beyond
-          block_plain h = let k = way_told (row_of r) e h in passes (rw k) (λ rs. rw k)
+          block_goes_on (inl (x, y, h)) = let k = way_told (row_of r) e h in passes (rw k) (λ rs. rw k)
+          block_goes_on (inr h) = let k = way_told (row_of r) e h in passes (rw k) (λ rs. rw k)
 
           pub block_closes : w ≡ Closing → PastBlock lent from next
           unfolding beyond
           block_closes h =
               let k = way_told (row_of r) e h in
               record {
-                walked = b.walks next (stopped (Found r next) d (rw k));
+                walked = b.walks next (stopped (Some (r, next)) d (rw k));
                 is = λ rs l.
                     let o = b.on rs l in
                     let z = front lent o.0 d o.1 in
@@ -133,7 +130,7 @@ module _ (lent : List ℕ) (from : ℕ) where
           block_opens p h c =
               let k = way_told (row_of r) e h in
               record {
-                walks = λ e i. b.walks e (entered (Found r next) next p d (rw k) c.walked i);
+                walks = λ e i. b.walks e (entered (Some (r, next)) next p d (rw k) c.walked i);
                 on = on_by p (λ rs l. (beyond 0 rs, c.is rs l, rw k (beyond_nest 0 0 rs)));
                 after = omega (arith, b.after, row_further lent at g v r next f, c.after);
                 within = c.within;

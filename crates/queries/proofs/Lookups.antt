@@ -2,8 +2,10 @@
 use Prim.Native.Nat.{ℕ, zero, suc, ◌+◌, ◌≤◌, ◌<◌}
 use mathlib.Core.Path.{◌≡◌, refl, sym, ap, subst, ◌∙◌}
 use mathlib.Core.Bool.{Bool, true, false}
+use mathlib.Core.Logic.{◌⊎◌, inl, inr}
 use mathlib.Core.List.{List, [], ◌∷◌, ◌++◌, map}
 use native.Mathlib.Omega.{arith}
+use Rattle.std.specs.Prelude.{Option, Some, None, Result, Ok, Err}
 use borrow.Author.Tests.{le-leb}
 use lib.ListN.{length, length-append}
 use Rattle.rules.specs.Bytes.{fold}
@@ -23,15 +25,14 @@ use Rattle.classes.specs.Places.{part, as_span}
 use Rattle.rows.specs.Rows.{row_of}
 use Rattle.rows.specs.Decoding.{Decodes}
 use Rattle.rows.specs.declared.Row.{Row}
-use Rattle.rows.specs.declared.Got.{Got}
-use Rattle.rows.specs.declared.Got.TheVariants.{Nothing, Found}
 use Rattle.table.specs.Judging.{Judges, proper, improper}
-use Rattle.table.specs.declared.Checked.{Checked}
-use Rattle.table.specs.declared.Checked.TheVariants as checks
+use Rattle.std.specs.Prelude.{Result, Ok, Err}
+use Rattle.table.specs.declared.Improper.{Improper}
 use Rattle.queries.specs.declared.places.Way.{Way}
 use Rattle.queries.specs.declared.places.Way.TheVariants.{Named, Plain, Opening, Closing, Ending}
-use Rattle.queries.specs.declared.answers.Finding.{Finding}
-use Rattle.queries.specs.declared.answers.Finding.TheVariants.{At, NoName, NoLine}
+use Rattle.queries.specs.declared.outcome.At.{At}
+use Rattle.queries.specs.declared.outcome.NotFound.{NotFound}
+use Rattle.queries.specs.declared.outcome.NotFound.TheVariants.{NoName, NoLine}
 use Rattle.queries.specs.Answers.{found_said}
 use Rattle.queries.specs.Walking.{TableFrom, First, no_first, the_first, RowFrom, way_of, beyond, PastBlock, finding_of, SeeksFrom, FindsFrom}
 use Rattle.queries.proofs.RowsLeft.{left_end, left_from, left_size, left_proper, front, none_left}
@@ -88,26 +89,26 @@ module _ (label lent name : List ℕ) (row : ℕ) where
 
   module _ (at : ℕ) (b : Sighting label lent name row at) where
     -- the answer, where it is known from what is left
-    answers : {z : asked.Finding} {r : Finding} → r ≡ finding_of z → ((rs : List rule.Row) → TableFrom lent at rs → seeks label name 0 at rs ≡ z) → SeeksFrom label lent name row r
+    answers : {z : asked.Finding} {r : Result At NotFound} → r ≡ finding_of z → ((rs : List rule.Row) → TableFrom lent at rs → seeks label name 0 at rs ≡ z) → SeeksFrom label lent name row r
     answers e f = record { is = λ rs l. let o = b.on rs l in e ∙ ap finding_of (sym (o.2 ∙ f o.0 o.1)) }
 
     none_sought : {rs : List rule.Row} → rs ≡ [] → seeks label name 0 at rs ≡ asked.absent
     unfolding seeks
     none_sought e = rw e
 
-    pub seek_runs_out : length lent ≤ at → SeeksFrom label lent name row NoName
+    pub seek_runs_out : length lent ≤ at → SeeksFrom label lent name row (Err NoName)
     seek_runs_out h = answers refl (λ rs l. none_sought (left_end lent at rs l h))
 
-    module _ (g : Got) (v : Decodes lent at g) where
-      pub seek_cut : g ≡ Nothing → SeeksFrom label lent name row NoName
+    module _ (g : Option (Row × ℕ)) (v : Decodes lent at g) where
+      pub seek_cut : g ≡ None → SeeksFrom label lent name row (Err NoName)
       seek_cut f = answers refl (λ rs l. none_sought (none_left lent rs (subst (Decodes lent at) f v) l))
 
-      module _ (r : Row) (next : ℕ) (f : g ≡ Found r next) where
-        d : Decodes lent at (Found r next)
+      module _ (r : Row) (next : ℕ) (f : g ≡ Some (r, next)) where
+        d : Decodes lent at (Some (r, next))
         d = subst (Decodes lent at) f v
 
         -- the answer, where the row tells it
-        tells : (z : asked.Finding) {x : Finding} → x ≡ finding_of z → ((rs : List rule.Row) → seeks label name 0 at (row_of r ∷ rs) ≡ z) → SeeksFrom label lent name row x
+        tells : (z : asked.Finding) {x : Result At NotFound} → x ≡ finding_of z → ((rs : List rule.Row) → seeks label name 0 at (row_of r ∷ rs) ≡ z) → SeeksFrom label lent name row x
         tells z e go = answers e (λ rs l. let k = front lent rs d l in ap (seeks label name 0 at) k.is ∙ go k.rest)
 
         -- one row on, or past an inner block
@@ -122,13 +123,10 @@ module _ (label lent name : List ℕ) (row : ℕ) where
         }
 
         module _ (w : Way) (e : w ≡ way_of (way (row_of r))) where
-          pub seek_ends : w ≡ Ending → SeeksFrom label lent name row NoName
+          pub seek_stops : (w ≡ Closing) ⊎ (w ≡ Ending) → SeeksFrom label lent name row (Err NoName)
           unfolding seeks
-          seek_ends h = let k = way_told (row_of r) e h in tells asked.absent refl (λ rs. rw k)
-
-          pub seek_closes : w ≡ Closing → SeeksFrom label lent name row NoName
-          unfolding seeks
-          seek_closes h = let k = way_told (row_of r) e h in tells asked.absent refl (λ rs. rw k)
+          seek_stops (inl h) = let k = way_told (row_of r) e h in tells asked.absent refl (λ rs. rw k)
+          seek_stops (inr h) = let k = way_told (row_of r) e h in tells asked.absent refl (λ rs. rw k)
 
           pub seek_plain : w ≡ Plain → Sighting label lent name row next
           unfolding seeks
@@ -147,7 +145,7 @@ module _ (label lent name : List ℕ) (row : ℕ) where
             named : t ≡ has_name label name (as_span x y)
             named = j ∙ ap (λ (u : List ℕ). same (map fold u) (map fold name)) i
 
-            pub seek_found : t ≡ true → SeeksFrom label lent name row (At at)
+            pub seek_found : t ≡ true → SeeksFrom label lent name row (Ok (record { row = at }))
             unfolding seeks
             seek_found q = let k = way_told (row_of r) e h in tells (asked.stands at) refl (λ rs. rw (k, ← named, q))
 
@@ -161,28 +159,28 @@ found_said_lem : (z : asked.Finding) → found_said (finding_of z) ≡ finding z
 found_said_lem (asked.stands k) = refl
 found_said_lem asked.absent = refl
 
-module _ (label lent name : List ℕ) (row : ℕ) (g : Got) (s : RowFrom lent row g) where
-  pub finds_no_row : g ≡ Nothing → FindsFrom label lent name row NoLine
-  finds_no_row f = record { is = λ rs l. go (from_of row rs) (subst (λ (x : Got). First x (from_of row rs)) f (s.is rs l)) }
+module _ (label lent name : List ℕ) (row : ℕ) (g : Option (Row × ℕ)) (s : RowFrom lent row g) where
+  pub finds_no_row : g ≡ None → FindsFrom label lent name row (Err NoLine)
+  finds_no_row f = record { is = λ rs l. go (from_of row rs) (subst (λ (x : Option (Row × ℕ)). First x (from_of row rs)) f (s.is rs l)) }
     where
-      go : (qs : List rule.Row) → First Nothing qs → says 15 0 0 ≡ line_said label name row qs
+      go : (qs : List rule.Row) → First None qs → says 15 0 0 ≡ line_said label name row qs
       go [] no_first = refl
       go (_ ∷ _) x = elim x [ ]
 
-  module _ (r : Row) (next : ℕ) (f : g ≡ Found r next) (t : Bool) (e : t ≡ is_line (row_of r)) where
-    pub finds_line : (z : Finding) → t ≡ true → SeeksFrom label lent name row z → FindsFrom label lent name row z
-    finds_line z h k = record { is = λ rs l. go rs l r next (sym e ∙ h) (from_of row rs) refl (subst (λ (x : Got). First x (from_of row rs)) f (s.is rs l)) }
+  module _ (r : Row) (next : ℕ) (f : g ≡ Some (r, next)) (t : Bool) (e : t ≡ is_line (row_of r)) where
+    pub finds_line : (z : Result At NotFound) → t ≡ true → SeeksFrom label lent name row z → FindsFrom label lent name row z
+    finds_line z h k = record { is = λ rs l. go rs l r next (sym e ∙ h) (from_of row rs) refl (subst (λ (x : Option (Row × ℕ)). First x (from_of row rs)) f (s.is rs l)) }
       where
-        go : (rs : List rule.Row) → TableFrom lent 0 rs → (r : Row) (next : ℕ) → is_line (row_of r) ≡ true → (qs : List rule.Row) → from_of row rs ≡ qs → First (Found r next) qs → found_said z ≡ line_said label name row qs
+        go : (rs : List rule.Row) → TableFrom lent 0 rs → (r : Row) (next : ℕ) → is_line (row_of r) ≡ true → (qs : List rule.Row) → from_of row rs ≡ qs → First (Some (r, next)) qs → found_said z ≡ line_said label name row qs
         go rs l r next q [] i x = elim x [ ]
         go rs l r next q (x ∷ qs) i the_first =
             let m : 0 + row ≡ row = omega arith in
             ap found_said (k.is (row_of r ∷ qs) (subst (λ (i : ℕ). TableFrom lent i (row_of r ∷ qs)) m (left_from lent 0 l (from_there row rs i)))) ∙ found_said_lem (seeks label name 0 row (row_of r ∷ qs)) ∙ rw q
 
-    pub finds_none : t ≡ false → FindsFrom label lent name row NoLine
-    finds_none h = record { is = λ rs l. go r next (sym e ∙ h) (from_of row rs) (subst (λ (x : Got). First x (from_of row rs)) f (s.is rs l)) }
+    pub finds_none : t ≡ false → FindsFrom label lent name row (Err NoLine)
+    finds_none h = record { is = λ rs l. go r next (sym e ∙ h) (from_of row rs) (subst (λ (x : Option (Row × ℕ)). First x (from_of row rs)) f (s.is rs l)) }
       where
-        go : (r : Row) (next : ℕ) → is_line (row_of r) ≡ false → (qs : List rule.Row) → First (Found r next) qs → says 15 0 0 ≡ line_said label name row qs
+        go : (r : Row) (next : ℕ) → is_line (row_of r) ≡ false → (qs : List rule.Row) → First (Some (r, next)) qs → says 15 0 0 ≡ line_said label name row qs
         go r next q [] x = elim x [ ]
         go r next q (x ∷ qs) the_first = rw q
 
@@ -190,17 +188,11 @@ module _ (label lent name : List ℕ) (row : ℕ) where
   pub found_long : longest < length label → Sought label lent name row (says 1 longest 0)
   found_long h = search_refused (long_label h)
 
-  pub found_improper : {c : Checked} (p : ℕ) → length label ≤ longest → Judges label lent c → c ≡ checks.Improper p → Sought label lent name row (says 12 p 0)
-  found_improper p h j e = go (subst (Judges label lent) e j)
-    where
-      go : {p : ℕ} → Judges label lent (checks.Improper p) → Sought label lent name row (says 12 p 0)
-      go (improper v) = search_refused (no_table h v)
+  pub found_improper : {p : Improper} → length label ≤ longest → Judges label lent (Err p) → Sought label lent name row (says 12 p.0 0)
+  found_improper h (improper v) = search_refused (no_table h v)
 
-  pub found_proper : {c : Checked} (r : Finding) → length label ≤ longest → Judges label lent c → c ≡ checks.Proper → FindsFrom label lent name row r → Sought label lent name row (found_said r)
+  pub found_proper : (r : Result At NotFound) → length label ≤ longest → Judges label lent (Ok tt) → FindsFrom label lent name row r → Sought label lent name row (found_said r)
   unfolding sought_of
-  found_proper r h j e f = go (subst (Judges label lent) e j)
-    where
-      go : Judges label lent checks.Proper → Sought label lent name row (found_said r)
-      go (proper rs v) =
-          let q : sought_of label lent name row ≡ line_said label name row (from_of row rs) = rw (le-leb (length label) longest h, verdict_complete label h lent v) in
-          subst (Sought label lent name row) (q ∙ sym (f.is rs (left_proper label lent rs h v))) (sought_there label lent row name)
+  found_proper r h (proper rs v) f =
+      let q : sought_of label lent name row ≡ line_said label name row (from_of row rs) = rw (le-leb (length label) longest h, verdict_complete label h lent v) in
+      subst (Sought label lent name row) (q ∙ sym (f.is rs (left_proper label lent rs h v))) (sought_there label lent row name)

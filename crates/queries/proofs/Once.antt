@@ -5,6 +5,7 @@ use mathlib.Core.Path.{◌≡◌, refl, sym, ap, ap₂, subst, ◌∙◌}
 use mathlib.Core.Bool.{cond}
 use mathlib.Core.List.{List}
 use native.Mathlib.Omega.{arith}
+use Rattle.std.specs.Prelude.{Option, Result, Ok, Err}
 use lib.Dec.{eqb}
 use lib.ListN.{length}
 use Rattle.rules.specs.Data as rule
@@ -14,33 +15,35 @@ use Rattle.rules.specs.Asked.{Texted, Sought}
 use Rattle.rules.proofs.Tables.Asked.{texted_once, viewed_once, sought_once}
 use Rattle.classes.specs.Places.{as_span}
 use Rattle.rows.specs.Decoding.{Decodes}
-use Rattle.rows.specs.declared.Got.{Got}
+use Rattle.rows.specs.declared.Row.{Row}
 use Rattle.rows.proofs.Once.{row_at_once}
 use Rattle.queries.specs.Answers.{text_said, found_said, Views, ViewsIn}
 use Rattle.queries.specs.Walking.{Walked, arrived, reached_past, cut_short, passed, RowFrom, BlockStep, stops, goes, enters, step_of, BlockWalk, stopped, gone, entered, PastBlock}
 use Rattle.queries.proofs.RowsLeft.{same_found, nothing_found}
-use Rattle.queries.specs.declared.answers.TextAnswer.{TextAnswer}
-use Rattle.queries.specs.declared.answers.TextAnswer.TheVariants as texts
-use Rattle.queries.specs.declared.answers.Finding.{Finding}
-use Rattle.queries.specs.declared.answers.Finding.TheVariants as finds
+use Rattle.queries.specs.declared.outcome.Given.{Given}
+use Rattle.queries.specs.declared.outcome.NoText.{NoText}
+use Rattle.queries.specs.declared.outcome.NoText.TheVariants as texts
+use Rattle.queries.specs.declared.outcome.At.{At}
+use Rattle.queries.specs.declared.outcome.NotFound.{NotFound}
+use Rattle.queries.specs.declared.outcome.NotFound.TheVariants as finds
 use Rattle.queries.specs.declared.names.Stretch.{Stretch}
 
 -- ---- the text reader
 
-abbrev text : ℕ → ℕ → ℕ → TextAnswer
-text c p n = cond (eqb c 0) (texts.Given n) (cond (eqb c 1) texts.TooLong (cond (eqb c 12) (texts.Improper p) (cond (eqb c 15) texts.NoText (texts.NoRoom n))))
+abbrev text : ℕ → ℕ → ℕ → Result Given NoText
+text c p n = cond (eqb c 0) (Ok (record { length = n })) (Err (cond (eqb c 1) texts.TooLong (cond (eqb c 12) (texts.Improper p) (cond (eqb c 15) texts.NoRow (texts.NoRoom n)))))
 
-text_again : (t : TextAnswer) → text (text_said t).code (text_said t).place (text_said t).size ≡ t
-text_again (texts.Given n) = refl
-text_again texts.TooLong = refl
-text_again (texts.Improper p) = refl
-text_again texts.NoText = refl
-text_again (texts.NoRoom n) = refl
+text_again : (t : Result Given NoText) → text (text_said t).code (text_said t).place (text_said t).size ≡ t
+text_again (Ok t) = refl
+text_again (Err texts.TooLong) = refl
+text_again (Err (texts.Improper p)) = refl
+text_again (Err texts.NoRow) = refl
+text_again (Err (texts.NoRoom n)) = refl
 
-pub text_said_once : {t t' : TextAnswer} → text_said t ≡ text_said t' → t ≡ t'
+pub text_said_once : {t t' : Result Given NoText} → text_said t ≡ text_said t' → t ≡ t'
 text_said_once {t} {t'} e = sym (text_again t) ∙ ap (λ (s : Said). text s.code s.place s.size) e ∙ text_again t'
 
-pub text_once : {label lent room last last' : List ℕ} {row : ℕ} {t t' : TextAnswer} → Texted label lent row room (text_said t) last → Texted label lent row room (text_said t') last' →
+pub text_once : {label lent room last last' : List ℕ} {row : ℕ} {t t' : Result Given NoText} → Texted label lent row room (text_said t) last → Texted label lent row room (text_said t') last' →
     (t ≡ t') × (last ≡ last')
 text_once {label} {lent} {room} {row = row} a b = let u = texted_once label lent row room a b in (text_said_once u.0, u.1)
 
@@ -62,26 +65,26 @@ name_once {label} {lent} {row = row} a b = a.bytes ∙ ap (stretch label) (viewe
 
 -- ---- the lookup
 
-abbrev finding : ℕ → ℕ → ℕ → Finding
-finding c p n = cond (eqb c 0) (finds.At n) (cond (eqb c 1) finds.TooLong (cond (eqb c 12) (finds.Improper p) (cond (eqb c 14) finds.NoName finds.NoLine)))
+abbrev finding : ℕ → ℕ → ℕ → Result At NotFound
+finding c p n = cond (eqb c 0) (Ok (record { row = n })) (Err (cond (eqb c 1) finds.TooLong (cond (eqb c 12) (finds.Improper p) (cond (eqb c 14) finds.NoName finds.NoLine))))
 
-finding_again : (f : Finding) → finding (found_said f).code (found_said f).place (found_said f).size ≡ f
-finding_again (finds.At k) = refl
-finding_again finds.TooLong = refl
-finding_again (finds.Improper p) = refl
-finding_again finds.NoName = refl
-finding_again finds.NoLine = refl
+finding_again : (f : Result At NotFound) → finding (found_said f).code (found_said f).place (found_said f).size ≡ f
+finding_again (Ok f) = refl
+finding_again (Err finds.TooLong) = refl
+finding_again (Err (finds.Improper p)) = refl
+finding_again (Err finds.NoName) = refl
+finding_again (Err finds.NoLine) = refl
 
-pub found_said_once : {f f' : Finding} → found_said f ≡ found_said f' → f ≡ f'
+pub found_said_once : {f f' : Result At NotFound} → found_said f ≡ found_said f' → f ≡ f'
 found_said_once {f} {f'} e = sym (finding_again f) ∙ ap (λ (s : Said). finding s.code s.place s.size) e ∙ finding_again f'
 
-pub find_once : {label lent name : List ℕ} {row : ℕ} {f f' : Finding} → Sought label lent name row (found_said f) → Sought label lent name row (found_said f') → f ≡ f'
+pub find_once : {label lent name : List ℕ} {row : ℕ} {f f' : Result At NotFound} → Sought label lent name row (found_said f) → Sought label lent name row (found_said f') → f ≡ f'
 find_once {label} {lent} {name} {row} a b = found_said_once (sought_once label lent row name a b)
 
 -- ---- the row at an offset
 
 module _ {lent : List ℕ} {row : ℕ} where
-  walked_once : {at : ℕ} {g g' : Got} → Walked lent row at g → Walked lent row at g' → g ≡ g'
+  walked_once : {at : ℕ} {g g' : Option (Row × ℕ)} → Walked lent row at g → Walked lent row at g' → g ≡ g'
   walked_once (arrived e d) (arrived f c) = row_at_once d c
   walked_once (arrived e d) (reached_past i) = absurd (omega arith)
   walked_once (arrived e d) (cut_short i c) = absurd (omega arith)
@@ -99,7 +102,7 @@ module _ {lent : List ℕ} {row : ℕ} where
   walked_once (passed h d k) (cut_short i c) = absurd (nothing_found (row_at_once c d))
   walked_once {g' = g'} (passed h d k) (passed i c l) = walked_once k (subst (λ (x : ℕ). Walked lent row x g') (same_found (row_at_once c d)).1 l)
 
-  pub row_from_once : {g g' : Got} → RowFrom lent row g → RowFrom lent row g' → g ≡ g'
+  pub row_from_once : {g g' : Option (Row × ℕ)} → RowFrom lent row g → RowFrom lent row g' → g ≡ g'
   row_from_once a b = walked_once a.walked b.walked
 
 -- ---- past a block
@@ -123,7 +126,7 @@ same_enter : {n m : ℕ} → enters n ≡ enters m → n ≡ m
 same_enter e = cc
 
 module _ {lent : List ℕ} where
-  block_step_once : {at : ℕ} {g g' : Got} {x y : BlockStep} → Decodes lent at g → step_of (length lent) g ≡ x → Decodes lent at g' → step_of (length lent) g' ≡ y → x ≡ y
+  block_step_once : {at : ℕ} {g g' : Option (Row × ℕ)} {x y : BlockStep} → Decodes lent at g → step_of (length lent) g ≡ x → Decodes lent at g' → step_of (length lent) g' ≡ y → x ≡ y
   block_step_once d e c f = sym e ∙ ap (step_of (length lent)) (row_at_once d c) ∙ f
 
   block_walk_once : {at e e' : ℕ} → BlockWalk lent at e → BlockWalk lent at e' → e ≡ e'

@@ -4,6 +4,7 @@ use mathlib.Core.Path.{◌≡◌, refl, sym, ap, subst, ◌∙◌}
 use mathlib.Core.Bool.{Bool, true, false, cond}
 use mathlib.Core.List.{List, [], ◌∷◌}
 use native.Mathlib.Omega.{arith}
+use Rattle.std.specs.Prelude.{Option, Some, None}
 use borrow.Author.Tests.{leb-true, leb-false, ne_eqb, le-leb, lt-leb}
 use lib.Dec.{leb}
 use lib.ListN.{length}
@@ -13,8 +14,6 @@ use Rattle.rules.proofs.Machine.Lookup.{from_of}
 use Rattle.rows.specs.Rows.{row_of}
 use Rattle.rows.specs.Decoding.{Decodes}
 use Rattle.rows.specs.declared.Row.{Row}
-use Rattle.rows.specs.declared.Got.{Got}
-use Rattle.rows.specs.declared.Got.TheVariants.{Nothing, Found}
 use Rattle.queries.specs.Walking.{TableFrom, Walked, arrived, reached_past, cut_short, passed, First, no_first, RowFrom}
 use Rattle.queries.proofs.RowsLeft.{row_further, front, none_left, first_left}
 
@@ -52,7 +51,7 @@ reaches_on row at next r rs h e =
 
 -- what the walk to a row keeps up
 pub record Walks (lent : List ℕ) (row at : ℕ) : Type 0 where
-  pub goes : (g : Got) → Walked lent row at g → Walked lent row 0 g
+  pub goes : (g : Option (Row × ℕ)) → Walked lent row at g → Walked lent row 0 g
   pub on : (rs : List rule.Row) → TableFrom lent 0 rs → (left : List rule.Row) × TableFrom lent at left × (from_of row rs ≡ reaches row at left)
 
 module _ (lent : List ℕ) (row : ℕ) where
@@ -60,7 +59,7 @@ module _ (lent : List ℕ) (row : ℕ) where
   walk_starts = record { goes = λ g k. k; on = λ rs l. let e : row - 0 ≡ row = omega arith in (rs, l, rw (le-leb 0 row (omega arith), e)) }
 
   module _ (at : ℕ) (w : Walks lent row at) where
-    pub walk_turns : (g : Got) (r : Row) (next : ℕ) → at < row → Decodes lent at g → g ≡ Found r next → Walks lent row next
+    pub walk_turns : (g : Option (Row × ℕ)) (r : Row) (next : ℕ) → at < row → Decodes lent at g → g ≡ Some (r, next) → Walks lent row next
     walk_turns g r next h v f =
         let d = subst (Decodes lent at) f v in
         record {
@@ -71,24 +70,24 @@ module _ (lent : List ℕ) (row : ℕ) where
               (z.rest, z.left, k.2 ∙ ap (reaches row at) z.is ∙ reaches_on row at next (row_of r) z.rest h z.size);
         }
 
-    pub walk_nearer : (g : Got) (r : Row) (next : ℕ) → at < row → Decodes lent at g → g ≡ Found r next → row - next < row - at
+    pub walk_nearer : (g : Option (Row × ℕ)) (r : Row) (next : ℕ) → at < row → Decodes lent at g → g ≡ Some (r, next) → row - next < row - at
     walk_nearer g r next h v f = omega (arith, row_further lent at g v r next f)
 
-    pub walk_stops : (g : Got) → at < row → Decodes lent at g → g ≡ Nothing → RowFrom lent row Nothing
+    pub walk_stops : (g : Option (Row × ℕ)) → at < row → Decodes lent at g → g ≡ None → RowFrom lent row None
     walk_stops g h v f =
         let d = subst (Decodes lent at) f v in
         record {
-          walked = w.goes Nothing (cut_short h d);
-          is = λ rs l. let k = w.on rs l in subst (First Nothing) (sym (k.2 ∙ ap (reaches row at) (none_left lent k.0 d k.1) ∙ reaches_none row at)) no_first;
+          walked = w.goes None (cut_short h d);
+          is = λ rs l. let k = w.on rs l in subst (First None) (sym (k.2 ∙ ap (reaches row at) (none_left lent k.0 d k.1) ∙ reaches_none row at)) no_first;
         }
 
-    pub walk_past : row < at → RowFrom lent row Nothing
+    pub walk_past : row < at → RowFrom lent row None
     walk_past h = record {
-      walked = w.goes Nothing (reached_past h);
-      is = λ rs l. let k = w.on rs l in let e : reaches row at k.0 ≡ [] = rw (lt-leb at row h) in subst (First Nothing) (sym (k.2 ∙ e)) no_first;
+      walked = w.goes None (reached_past h);
+      is = λ rs l. let k = w.on rs l in let e : reaches row at k.0 ≡ [] = rw (lt-leb at row h) in subst (First None) (sym (k.2 ∙ e)) no_first;
     }
 
-    pub walk_ends : (g : Got) → row ≤ at → at ≤ row → Decodes lent row g → RowFrom lent row g
+    pub walk_ends : (g : Option (Row × ℕ)) → row ≤ at → at ≤ row → Decodes lent row g → RowFrom lent row g
     walk_ends g h k v = record {
       walked = w.goes g (arrived (omega arith) v);
       is = λ rs l.

@@ -3,6 +3,7 @@ use Prim.Native.Nat.{ℕ, ◌+◌, ◌-◌, ◌≤◌, ◌<◌}
 use mathlib.Core.Path.{◌≡◌, refl, sym, ap, subst, ◌∙◌}
 use mathlib.Core.List.{List, [], ◌∷◌, ◌++◌}
 use native.Mathlib.Omega.{arith}
+use Rattle.std.specs.Prelude.{Option, Some, None}
 use lib.ListN.{length, drop, length-append, length-drop, drop_of_length-le}
 use lib.Seq.{drop-append_seam, drop-drop}
 use Rattle.rules.specs.Data as rule
@@ -20,8 +21,6 @@ use Rattle.rules.proofs.Machine.Queries.{from_row}
 use Rattle.rows.specs.Rows.{row_of}
 use Rattle.rows.specs.Decoding.{Decodes, no_row, a_row}
 use Rattle.rows.specs.declared.Row.{Row}
-use Rattle.rows.specs.declared.Got.{Got}
-use Rattle.rows.specs.declared.Got.TheVariants.{Nothing, Found}
 use Rattle.rows.proofs.Decoding.{row_there}
 use Rattle.rows.proofs.EachWay.{row_found}
 use Rattle.queries.specs.Walking.{TableFrom, First, no_first, the_first}
@@ -31,10 +30,12 @@ use Rattle.queries.specs.Walking.{TableFrom, First, no_first, the_first}
 table_some : (r : rule.Row) (rs : List rule.Row) → [] ≡ table (r ∷ rs) → ⊥
 table_some r rs e = let q : 0 ≡ length (encode r ++ table rs) = ap length e in omega (arith, encode_size r, length-append (encode r) (table rs))
 
-pub same_found : {r q : Row} {n m : ℕ} → Found r n ≡ Found q m → (r ≡ q) × (n ≡ m)
-same_found e = (cc, cc)
+pub same_found : {r q : Row} {n m : ℕ} → ◌≡◌ {A = Option (Row × ℕ)} (Some (r, n)) (Some (q, m)) → (r ≡ q) × (n ≡ m)
+same_found {r} {q} {n} {m} e =
+    let p : ◌≡◌ {A = Row × ℕ} (r, n) (q, m) = cc in
+    (ap (λ (x : Row × ℕ). x.0) p, ap (λ (x : Row × ℕ). x.1) p)
 
-pub nothing_found : {r : Row} {n : ℕ} → Nothing ≡ Found r n → ⊥
+pub nothing_found : {r : Row} {n : ℕ} → ◌≡◌ {A = Option (Row × ℕ)} None (Some (r, n)) → ⊥
 nothing_found e = let w : ◌≡◌ {A = ℕ} 0 1 = cc in omega arith
 
 module _ (lent : List ℕ) where
@@ -72,12 +73,12 @@ module _ (lent : List ℕ) where
   -- ---- what is read there
 
   -- no row is read past the table's end
-  pub none_past : (at : ℕ) → length lent ≤ at → Decodes lent at Nothing
+  pub none_past : (at : ℕ) → length lent ≤ at → Decodes lent at None
   unfolding decode
   none_past at h = no_row (ap decode (drop_of_length-le lent h))
 
   -- the place after a row that is read lies further on, inside the table and so nearer to its end
-  module _ (at : ℕ) (g : Got) (v : Decodes lent at g) (r : Row) (next : ℕ) (f : g ≡ Found r next) where
+  module _ (at : ℕ) (g : Option (Row × ℕ)) (v : Decodes lent at g) (r : Row) (next : ℕ) (f : g ≡ Some (r, next)) where
     pub row_further : at < next
     row_further = (row_there v f).further
 
@@ -95,7 +96,7 @@ module _ (lent : List ℕ) where
     pub left : TableFrom lent next rest
 
   module _ {at : ℕ} where
-    pub front : {r : Row} {next : ℕ} (rs : List rule.Row) → Decodes lent at (Found r next) → TableFrom lent at rs → Front at r next rs
+    pub front : {r : Row} {next : ℕ} (rs : List rule.Row) → Decodes lent at (Some (r, next)) → TableFrom lent at rs → Front at r next rs
     unfolding decode
     front [] (a_row e l m) t = absurd (nothing_got (sym (ap decode t.bytes) ∙ e))
     front {r} {next} (q ∷ rs) d t =
@@ -110,21 +111,21 @@ module _ (lent : List ℕ) where
           left = subst (λ (i : ℕ). TableFrom lent i rs) (sym s.1) more.1;
         }
 
-    pub none_left : (rs : List rule.Row) → Decodes lent at Nothing → TableFrom lent at rs → rs ≡ []
+    pub none_left : (rs : List rule.Row) → Decodes lent at None → TableFrom lent at rs → rs ≡ []
     none_left [] d t = refl
     none_left (q ∷ rs) d t = absurd (nothing_found (row_found q (table rs) (left_more at q rs t).0 t.bytes d).1)
 
-    pub first_left : {g : Got} (rs : List rule.Row) → Decodes lent at g → TableFrom lent at rs → First g rs
-    first_left rs (no_row e) t = subst (First Nothing) (sym (none_left rs (no_row e) t)) no_first
+    pub first_left : {g : Option (Row × ℕ)} (rs : List rule.Row) → Decodes lent at g → TableFrom lent at rs → First g rs
+    first_left rs (no_row e) t = subst (First None) (sym (none_left rs (no_row e) t)) no_first
     first_left rs (a_row {row} {next} e l m) t =
         let z = front {r = row} {next = next} rs (a_row {row = row} {next = next} e l m) t in
-        subst (First (Found row next)) (sym z.is) (the_first {r = row} {next = next} {rs = z.rest})
+        subst (First (Some (row, next))) (sym z.is) (the_first {r = row} {next = next} {rs = z.rest})
 
 -- what is told of the first row
-pub first_found : {A : Type 0} {r : Row} {next : ℕ} {rs : List rule.Row} → First (Found r next) rs → (a : A) (f : rule.Row → A) → from_row rs a f ≡ f (row_of r)
+pub first_found : {A : Type 0} {r : Row} {next : ℕ} {rs : List rule.Row} → First (Some (r, next)) rs → (a : A) (f : rule.Row → A) → from_row rs a f ≡ f (row_of r)
 first_found the_first a f = refl
 
-pub first_none : {A : Type 0} {rs : List rule.Row} → First Nothing rs → (a : A) (f : rule.Row → A) → from_row rs a f ≡ a
+pub first_none : {A : Type 0} {rs : List rule.Row} → First None rs → (a : A) (f : rule.Row → A) → from_row rs a f ≡ a
 first_none no_first a f = refl
 
 -- ---- a proper table

@@ -1,6 +1,6 @@
 -- Rows of a table from a place on, and what is found among them. Terms of private contracts.
-use Rattle.std.specs.Prelude.{ℕ, zero, suc, ◌≤◌, ◌<◌, ◌≡◌, List, [], ◌∷◌, length, drop}
-use Rattle.std.proofs.Math.Option.{Option, none, some}
+use Rattle.std.specs.Prelude.{ℕ, zero, suc, ◌≤◌, ◌<◌, ◌≡◌, List, [], ◌∷◌, length, drop, Option, Some, None, Result, Ok, Err}
+use Rattle.std.proofs.Math.Option as maybe
 use Rattle.rules.specs.Data as rule
 use Rattle.rules.specs.Table.{table}
 use Rattle.rules.specs.Proper.{Each}
@@ -13,16 +13,14 @@ use Rattle.rules.proofs.Machine.Returns.{returns}
 use Rattle.rows.specs.Rows.{row_of}
 use Rattle.rows.specs.Decoding.{Decodes}
 use Rattle.rows.specs.declared.Row.{Row}
-use Rattle.rows.specs.declared.Got.{Got}
-use Rattle.rows.specs.declared.Got.TheVariants as gots
-use Rattle.queries.specs.declared.texts.Shown.{Shown}
-use Rattle.queries.specs.declared.texts.Shown.TheVariants as shown
 use Rattle.queries.specs.declared.places.Way.{Way}
 use Rattle.queries.specs.declared.places.Way.TheVariants as ways
 use Rattle.queries.specs.declared.names.Stretch.{Stretch}
-use Rattle.queries.specs.declared.answers.TextAnswer.{TextAnswer}
-use Rattle.queries.specs.declared.answers.Finding.{Finding}
-use Rattle.queries.specs.declared.answers.Finding.TheVariants as finds
+use Rattle.queries.specs.declared.outcome.Given.{Given}
+use Rattle.queries.specs.declared.outcome.NoText.{NoText}
+use Rattle.queries.specs.declared.outcome.At.{At}
+use Rattle.queries.specs.declared.outcome.NotFound.{NotFound}
+use Rattle.queries.specs.declared.outcome.NotFound.TheVariants as finds
 use Rattle.queries.specs.Answers.{text_said, found_said}
 
 -- from a place on, the table is the bytes of these rows
@@ -34,20 +32,20 @@ pub record TableFrom (lent : List ℕ) (at : ℕ) (rows : List rule.Row) : Type 
 -- ---- the row at an offset
 
 -- the walk to an offset, over any bytes: no row there where a row before it reaches past it or is cut short
-pub data Walked (lent : List ℕ) (row : ℕ) : ℕ → Got → Type 0 where
-  arrived : {at : ℕ} {g : Got} → at ≡ row → Decodes lent row g → Walked lent row at g
-  reached_past : {at : ℕ} → row < at → Walked lent row at gots.Nothing
-  cut_short : {at : ℕ} → at < row → Decodes lent at gots.Nothing → Walked lent row at gots.Nothing
-  passed : {at next : ℕ} {r : Row} {g : Got} → at < row → Decodes lent at (gots.Found r next) → Walked lent row next g →
+pub data Walked (lent : List ℕ) (row : ℕ) : ℕ → Option (Row × ℕ) → Type 0 where
+  arrived : {at : ℕ} {g : Option (Row × ℕ)} → at ≡ row → Decodes lent row g → Walked lent row at g
+  reached_past : {at : ℕ} → row < at → Walked lent row at None
+  cut_short : {at : ℕ} → at < row → Decodes lent at None → Walked lent row at None
+  passed : {at next : ℕ} {r : Row} {g : Option (Row × ℕ)} → at < row → Decodes lent at (Some (r, next)) → Walked lent row next g →
       Walked lent row at g
 
 -- the first of these rows, or none
-pub data First : Got → List rule.Row → Type 0 where
-  no_first : First gots.Nothing []
-  the_first : {r : Row} {next : ℕ} {rs : List rule.Row} → First (gots.Found r next) (row_of r ∷ rs)
+pub data First : Option (Row × ℕ) → List rule.Row → Type 0 where
+  no_first : First None []
+  the_first : {r : Row} {next : ℕ} {rs : List rule.Row} → First (Some (r, next)) (row_of r ∷ rs)
 
 -- the row at an offset: that of the rules where the table holds rows, and of any bytes the one that the walk arrives at
-pub record RowFrom (lent : List ℕ) (row : ℕ) (g : Got) : Type 0 where
+pub record RowFrom (lent : List ℕ) (row : ℕ) (g : Option (Row × ℕ)) : Type 0 where
   pub is : (rows : List rule.Row) → TableFrom lent 0 rows → First g (from_of row rows)
   pub walked : Walked lent row 0 g
 
@@ -73,16 +71,16 @@ pub data BlockStep : Type 0 where
   enters : ℕ → BlockStep
 
 -- the step from a row, in a table of this size
-abbrev pub step_of : ℕ → Got → BlockStep
-step_of size gots.Nothing = stops size
-step_of size (gots.Found r next) = for_way (way (row_of r)) (λ p. goes next) (goes next) (enters next) (stops next) (stops size)
+abbrev pub step_of : ℕ → Option (Row × ℕ) → BlockStep
+step_of size None = stops size
+step_of size (Some (r, next)) = for_way (way (row_of r)) (λ p. goes next) (goes next) (enters next) (stops next) (stops size)
 
 -- the walk to the end of the block whose rows begin at a place
 pub data BlockWalk (lent : List ℕ) : ℕ → ℕ → Type 0 where
-  stopped : {at e : ℕ} (g : Got) → Decodes lent at g → step_of (length lent) g ≡ stops e → BlockWalk lent at e
-  gone : {at e : ℕ} (g : Got) (next : ℕ) → Decodes lent at g → step_of (length lent) g ≡ goes next → BlockWalk lent next e →
+  stopped : {at e : ℕ} (g : Option (Row × ℕ)) → Decodes lent at g → step_of (length lent) g ≡ stops e → BlockWalk lent at e
+  gone : {at e : ℕ} (g : Option (Row × ℕ)) (next : ℕ) → Decodes lent at g → step_of (length lent) g ≡ goes next → BlockWalk lent next e →
       BlockWalk lent at e
-  entered : {at e : ℕ} (g : Got) (next past : ℕ) → Decodes lent at g → step_of (length lent) g ≡ enters next → BlockWalk lent next past →
+  entered : {at e : ℕ} (g : Option (Row × ℕ)) (next past : ℕ) → Decodes lent at g → step_of (length lent) g ≡ enters next → BlockWalk lent next past →
       BlockWalk lent past e → BlockWalk lent at e
 
 -- past the block whose rows begin at a place: as the rules have it where the table holds rows, and of any bytes where the walk stops
@@ -94,12 +92,12 @@ pub record PastBlock (lent : List ℕ) (from e : ℕ) : Type 0 where
 
 -- ---- what is shown of a row
 
-abbrev pub shown_of : Option rule.Span → Shown
-shown_of (some p) = shown.Span p.from p.upto
-shown_of none = shown.Nothing
+abbrev pub shown_of : maybe.Option rule.Span → Option (ℕ × ℕ)
+shown_of (maybe.some p) = Some (p.from, p.upto)
+shown_of maybe.none = None
 
 -- the text of the row at an offset
-pub record TextFrom (label lent : List ℕ) (row : ℕ) (room : List ℕ) (r : TextAnswer) (after : List ℕ) : Type 0 where
+pub record TextFrom (label lent : List ℕ) (row : ℕ) (room : List ℕ) (r : Result Given NoText) (after : List ℕ) : Type 0 where
   pub is : (rows : List rule.Row) → TableFrom lent 0 rows →
       returns (text_said r) after ≡ from_row (from_of row rows) (returns (asked.says 15 0 0) room) (text_row label room)
 
@@ -116,14 +114,14 @@ pub record StretchFrom (lent : List ℕ) (row : ℕ) (s : Stretch) : Type 0 wher
 
 -- ---- the lookup
 
-abbrev pub finding_of : asked.Finding → Finding
-finding_of (asked.stands k) = finds.At k
-finding_of asked.absent = finds.NoName
+abbrev pub finding_of : asked.Finding → Result At NotFound
+finding_of (asked.stands k) = Ok (record { row = k })
+finding_of asked.absent = Err finds.NoName
 
 -- from a place where a row starts
-pub record SeeksFrom (label lent name : List ℕ) (row : ℕ) (r : Finding) : Type 0 where
+pub record SeeksFrom (label lent name : List ℕ) (row : ℕ) (r : Result At NotFound) : Type 0 where
   pub is : (rows : List rule.Row) → TableFrom lent row rows → r ≡ finding_of (seeks label name 0 row rows)
 
 -- from an offset
-pub record FindsFrom (label lent name : List ℕ) (row : ℕ) (r : Finding) : Type 0 where
+pub record FindsFrom (label lent name : List ℕ) (row : ℕ) (r : Result At NotFound) : Type 0 where
   pub is : (rows : List rule.Row) → TableFrom lent 0 rows → found_said r ≡ line_said label name row (from_of row rows)

@@ -5,11 +5,9 @@ mod places; // places.rt: the row at an offset, and where a block ends
 mod texts; // texts.rt: the text of a row
 mod names; // names.rt: the name of a row
 mod lookup; // lookup.rt: an attribute by its name
-mod answers; // answers.rt: the answers, and code, place and length of each
+mod outcome; // outcome.rt: the answers, and code, place and length of each
 
-pub use answers::{
-    Finding, TextAnswer, found_code, found_place, found_row, text_code, text_length, text_place,
-};
 pub use lookup::find;
 pub use names::{Stretch, name, name_span};
+pub use outcome::{At, Given, NoText, NotFound};
 pub use texts::text;

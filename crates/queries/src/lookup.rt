@@ -6,48 +6,39 @@ ghost use Rattle.rows.specs.Rows.{row_of};
 ghost use Rattle.queries.specs.Answers.{found_said};
 ghost use Rattle.queries.specs.Walking.{SeeksFrom, FindsFrom};
 
-use crate::answers::Finding;
+use crate::outcome::{At, NotFound};
 use crate::places::{Way, past_block, row_from, way_of};
 use classes::{LONGEST_LABEL, alike, part};
-use rows::{Got, Row, row_at};
-use table::{Checked, check};
+use rows::{Row, row_at};
+use table::check;
 
 // A row of kind 1 to 6 or 99.
 fn is_line(row: Row) -> bool
     ensures { result ≡ is_line (row_of row) }
 {
-    match row {
-        Row::Attribute(_, _) => true,
-        Row::Pointer(_, _) => true,
-        Row::Open(_, _, _) => true,
-        Row::Close(_) => true,
-        Row::Integer(_, _) => false,
-        Row::Float(_) => false,
-        Row::Time(_) => false,
-        Row::Text(_, _) => false,
-        Row::Symbol(_, _) => false,
-        Row::Unit(_, _, _, _, _) => false,
-        Row::Sequence => false,
-        Row::SequenceEnd => false,
-        Row::Set => false,
-        Row::SetEnd => false,
-        Row::Last(_) => true,
-    }
+    matches!(
+        row,
+        Row::Attribute(_, _)
+            | Row::Pointer(_, _)
+            | Row::Open(_, _, _)
+            | Row::Close(_)
+            | Row::Last(_)
+    )
 }
 
 // From where a row starts.
-fn seek(label: &[u8], table: &[u8], name: &[u8], row: usize) -> Finding
+fn seek(label: &[u8], table: &[u8], name: &[u8], row: usize) -> Result<At, NotFound>
     ensures { SeeksFrom label.now table.now name.now row result }
 {
     let mut at = row;
     while at < table.len() {
-        let Got::Found(r, next) = row_at(table, at) else {
-            return Finding::NoName;
+        let Some((r, next)) = row_at(table, at) else {
+            return Err(NotFound::NoName);
         };
         match way_of(r) {
             Way::Named(a, b) => {
                 if alike(part(label, a, b), name) {
-                    return Finding::At(at);
+                    return Ok(At { row: at });
                 }
                 at = next;
             }
@@ -57,38 +48,33 @@ fn seek(label: &[u8], table: &[u8], name: &[u8], row: usize) -> Finding
             Way::Opening => {
                 at = past_block(table, next);
             }
-            Way::Closing => {
-                return Finding::NoName;
-            }
-            Way::Ending => {
-                return Finding::NoName;
+            Way::Closing | Way::Ending => {
+                return Err(NotFound::NoName);
             }
         }
     }
-    Finding::NoName
+    Err(NotFound::NoName)
 }
 
 // In a proper table.
-fn find_from(label: &[u8], table: &[u8], name: &[u8], row: usize) -> Finding
+fn find_from(label: &[u8], table: &[u8], name: &[u8], row: usize) -> Result<At, NotFound>
     ensures { FindsFrom label.now table.now name.now row result }
 {
-    let Got::Found(r, _) = row_from(table, row) else {
-        return Finding::NoLine;
+    let Some((r, _)) = row_from(table, row) else {
+        return Err(NotFound::NoLine);
     };
     if is_line(r) {
         return seek(label, table, name, row);
     }
-    Finding::NoLine
+    Err(NotFound::NoLine)
 }
 
-pub fn find(label: &[u8], table: &[u8], name: &[u8], row: usize) -> Finding
+pub fn find(label: &[u8], table: &[u8], name: &[u8], row: usize) -> Result<At, NotFound>
     ensures { Sought label.now table.now name.now row (found_said result) }
 {
     if LONGEST_LABEL < label.len() {
-        return Finding::TooLong;
+        return Err(NotFound::TooLong);
     }
-    match check(label, table) {
-        Checked::Improper(p) => Finding::Improper(p),
-        Checked::Proper => find_from(label, table, name, row),
-    }
+    check(label, table)?;
+    find_from(label, table, name, row)
 }

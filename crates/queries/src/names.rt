@@ -6,8 +6,8 @@ ghost use Rattle.queries.specs.Walking.{name_span, stretch_of, StretchFrom};
 
 use crate::places::row_from;
 use classes::LONGEST_LABEL;
-use rows::{Got, Row};
-use table::{Checked, check};
+use rows::Row;
+use table::check;
 
 // A stretch of the label.
 #[derive(Clone, Copy)]
@@ -16,25 +16,19 @@ pub struct Stretch {
     pub end: usize,
 }
 
+// The empty stretch at the label's start.
+const NOWHERE: Stretch = Stretch { start: 0, end: 0 };
+
 fn stretch_of(row: Row) -> Stretch
     ensures { result ≡ stretch_of (name_span (row_of row)) }
 {
     match row {
-        Row::Attribute(a, b) => Stretch { start: a, end: b },
-        Row::Pointer(a, b) => Stretch { start: a, end: b },
-        Row::Open(_, a, b) => Stretch { start: a, end: b },
-        Row::Close(_) => Stretch { start: 0, end: 0 },
-        Row::Integer(_, _) => Stretch { start: 0, end: 0 },
-        Row::Float(_) => Stretch { start: 0, end: 0 },
-        Row::Time(_) => Stretch { start: 0, end: 0 },
-        Row::Text(_, _) => Stretch { start: 0, end: 0 },
-        Row::Symbol(a, b) => Stretch { start: a, end: b },
-        Row::Unit(_, a, b, _, _) => Stretch { start: a, end: b },
-        Row::Sequence => Stretch { start: 0, end: 0 },
-        Row::SequenceEnd => Stretch { start: 0, end: 0 },
-        Row::Set => Stretch { start: 0, end: 0 },
-        Row::SetEnd => Stretch { start: 0, end: 0 },
-        Row::Last(_) => Stretch { start: 0, end: 0 },
+        Row::Attribute(a, b)
+        | Row::Pointer(a, b)
+        | Row::Open(_, a, b)
+        | Row::Symbol(a, b)
+        | Row::Unit(_, a, b, _, _) => Stretch { start: a, end: b },
+        _ => NOWHERE,
     }
 }
 
@@ -43,8 +37,8 @@ fn stretch_from(table: &[u8], row: usize) -> Stretch
     ensures { StretchFrom table.now row result }
 {
     match row_from(table, row) {
-        Got::Nothing => Stretch { start: 0, end: 0 },
-        Got::Found(r, _) => stretch_of(r),
+        None => NOWHERE,
+        Some((r, _)) => stretch_of(r),
     }
 }
 
@@ -53,12 +47,12 @@ pub fn name_span(label: &[u8], table: &[u8], row: usize) -> Stretch
     ensures { Views label.now table.now row result }
 {
     if LONGEST_LABEL < label.len() {
-        return Stretch { start: 0, end: 0 };
+        return NOWHERE;
     }
-    match check(label, table) {
-        Checked::Improper(_) => Stretch { start: 0, end: 0 },
-        Checked::Proper => stretch_from(table, row),
+    if check(label, table).is_err() {
+        return NOWHERE;
     }
+    stretch_from(table, row)
 }
 
 pub fn name<'a>(label: &'a [u8], table: &[u8], row: usize) -> &'a [u8]

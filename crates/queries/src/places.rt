@@ -5,7 +5,7 @@ ghost use Rattle.rules.proofs.Machine.Lookup.{way};
 ghost use Rattle.rows.specs.Rows.{row_of};
 ghost use Rattle.queries.specs.Walking.{RowFrom, way_of, PastBlock};
 
-use rows::{Got, Row, row_at};
+use rows::{Row, row_at};
 
 // What the lookup does with a row.
 #[derive(Clone, Copy)]
@@ -18,18 +18,18 @@ pub enum Way {
 }
 
 // The row that starts at an offset, if one does.
-pub fn row_from(table: &[u8], row: usize) -> Got
+pub fn row_from(table: &[u8], row: usize) -> Option<(Row, usize)>
     ensures { RowFrom table.now row result }
 {
     let mut at = 0;
     while at < row {
-        let Got::Found(_, next) = row_at(table, at) else {
-            return Got::Nothing;
+        let Some((_, next)) = row_at(table, at) else {
+            return None;
         };
         at = next;
     }
     if row < at {
-        return Got::Nothing;
+        return None;
     }
     row_at(table, row)
 }
@@ -41,20 +41,10 @@ pub fn way_of(row: Row) -> Way
 {
     match row {
         Row::Attribute(a, b) => Way::Named(a, b),
-        Row::Pointer(_, _) => Way::Plain,
         Row::Open(_, _, _) => Way::Opening,
         Row::Close(_) => Way::Closing,
-        Row::Integer(_, _) => Way::Plain,
-        Row::Float(_) => Way::Plain,
-        Row::Time(_) => Way::Plain,
-        Row::Text(_, _) => Way::Plain,
-        Row::Symbol(_, _) => Way::Plain,
-        Row::Unit(_, _, _, _, _) => Way::Plain,
-        Row::Sequence => Way::Plain,
-        Row::SequenceEnd => Way::Plain,
-        Row::Set => Way::Plain,
-        Row::SetEnd => Way::Plain,
         Row::Last(_) => Way::Ending,
+        _ => Way::Plain,
     }
 }
 
@@ -65,14 +55,11 @@ pub fn past_block(table: &[u8], from: usize) -> usize
 {
     let mut at = from;
     while at < table.len() {
-        let Got::Found(row, next) = row_at(table, at) else {
+        let Some((row, next)) = row_at(table, at) else {
             return table.len();
         };
         match way_of(row) {
-            Way::Named(_, _) => {
-                at = next;
-            }
-            Way::Plain => {
+            Way::Named(_, _) | Way::Plain => {
                 at = next;
             }
             Way::Opening => {

@@ -11,13 +11,16 @@ use Rattle.rules.specs.Table.{table}
 use Rattle.rules.specs.Proper.{proper_rows, Ruled}
 use Rattle.rules.specs.Reading.{longest, Said, accepted, Reads, read, Answered, stored, no_room, not_read}
 use Rattle.rules.specs.Writing.{Writes, long_label, no_table, long_written, short_room, stored as put}
-use Rattle.rules.specs.Asked.{says}
 use Rattle.rules.proofs.Tables.Judge.{same_rows, not_both, verdict_once}
 use Rattle.rules.proofs.Tables.OwnTable.{read_ruled}
 use Rattle.rules.proofs.Rooms.{refusal_some}
 use Rattle.classes.specs.Places.{part}
 use Rattle.relabel.specs.Relabels.{Relabels}
 use Rattle.relabel.specs.Relabels as relabel
+use Rattle.statements.specs.Answer.{accepted_said, refusal_said}
+use Rattle.statements.specs.declared.outcome.Accepted.{Accepted}
+use Rattle.statements.specs.declared.outcome.Refusal.{Refusal}
+use Rattle.statements.specs.declared.outcome.Refusal.TheVariants.{TooLong, ForeignByte, LeftOpen, NoForm, PastLimit, Misplaced, OtherName, TooDeep, EndNotSetOff, EndsEarly, NoRoom}
 
 -- ---- the reading
 
@@ -39,6 +42,20 @@ pub refuses : {label room last : List ℕ} (out : List ℕ) {s : Said} → lengt
 refuses out k (stored r h) n = absurd (n refl)
 refuses out k (no_room r h) n = relabel.long_table r (omega arith)
 refuses out k (not_read r) n = relabel.not_read r
+
+-- no refusal has code 0
+refused_code : (r : Refusal) → (refusal_said r).code ≡ 0 → ⊥
+refused_code TooLong e = omega (arith, e)
+refused_code (ForeignByte p) e = omega (arith, e)
+refused_code (LeftOpen p) e = omega (arith, e)
+refused_code (NoForm p) e = omega (arith, e)
+refused_code (PastLimit p) e = omega (arith, e)
+refused_code (Misplaced p) e = omega (arith, e)
+refused_code (OtherName p) e = omega (arith, e)
+refused_code (TooDeep p) e = omega (arith, e)
+refused_code (EndNotSetOff p) e = omega (arith, e)
+refused_code (EndsEarly p) e = omega (arith, e)
+refused_code (NoRoom a) e = omega (arith, e)
 
 -- ---- the writing
 
@@ -67,15 +84,11 @@ anew {label} {lent} g w = go w
     go (short_room h v l m) = relabel.short_room (reads v) (fits v) l m
     go (put h v l m) = relabel.written (reads v) (fits v) l m
 
--- ---- the same of the numbers that are handed back
+-- ---- the same of the answers
 
-told : {label out last : List ℕ} {s : Said} {c p n : ℕ} → c ≡ s.code → p ≡ s.place → n ≡ s.size → Relabels label out s last → Relabels label out (says c p n) last
-told e f g r = rw (e, f, g) r
+pub refused_reading : {label room last : List ℕ} (out : List ℕ) (r : Refusal) → length room ≡ longest → Answered base label room (refusal_said r) last → Relabels label out (refusal_said r) out
+refused_reading out r k a = refuses out k a (refused_code r)
 
-pub refused_reading : {label room last : List ℕ} (out : List ℕ) {s : Said} {c p n : ℕ} → length room ≡ longest → Answered base label room s last → c ≡ s.code → (c ≡ 0 → ⊥) → p ≡ s.place → n ≡ s.size →
-    Relabels label out (says c p n) out
-refused_reading out k a e z f g = told e f g (refuses out k a (λ q. z (e ∙ q)))
-
-pub written_anew : {label room kept lent out last : List ℕ} {s s' : Said} {c n c' p' n' : ℕ} → length room ≡ longest → Answered base label room s kept → c ≡ s.code → c ≡ 0 → n ≡ s.size → lent ≡ part kept 0 n →
-    Writes label lent out s' last → c' ≡ s'.code → p' ≡ s'.place → n' ≡ s'.size → Relabels label out (says c' p' n') last
-written_anew {kept = kept} {s = s} {n = n} k a e z g q w e' f' g' = told e' f' g' (anew (read_table k a (sym e ∙ z) (q ∙ ap (λ (i : ℕ). take i kept) (let h : n - 0 ≡ s.size = omega arith in h))) w)
+pub written_anew : {label room kept lent out last : List ℕ} {s : Said} {t : Accepted} → length room ≡ longest → Answered base label room (accepted_said t) kept → lent ≡ part kept 0 t.length →
+    Writes label lent out s last → Relabels label out s last
+written_anew {kept = kept} {t = t} k a q w = anew (read_table k a refl (q ∙ ap (λ (i : ℕ). take i kept) (let h : t.length - 0 ≡ t.length = omega arith in h))) w

@@ -13,7 +13,7 @@ use Rattle.rules.specs.Written.{canonical}
 use Rattle.rules.specs.Reading.{longest, Said, Outcome, accepted, refused, Reads}
 use Rattle.rules.specs.Asked.{says}
 use Rattle.rules.proofs.Reading.Reader.{reading_unique}
-use Rattle.relabel.specs.declared.anew.Answer.{Answer}
+use Rattle.relabel.specs.declared.anew.Told.{Told}
 use Rattle.relabel.specs.Relabels.{Relabels, written, short_room, long_written, long_table, not_read}
 
 -- the answer and the room's last bytes
@@ -58,7 +58,7 @@ relabel_once {label} {room} {last} {last'} {s} {s'} a b =
     (ap said e, ap bytes e)
 
 -- the numbers that are handed back
-pub relabelled_once : {label room last last' : List ℕ} {r r' : Answer} → Relabels label room (says r.code r.place r.length) last → Relabels label room (says r'.code r'.place r'.length) last' →
+pub relabelled_once : {label room last last' : List ℕ} {r r' : Told} → Relabels label room (says r.code r.place r.length) last → Relabels label room (says r'.code r'.place r'.length) last' →
     (r ≡ r') × (last ≡ last')
 relabelled_once a b =
     let u = relabel_once a b in

@@ -8,7 +8,7 @@ use classes::{LONGEST_LABEL, part};
 
 fn print_refusal(code: u8, place: usize) {
     io::write_all(1, b"REFUSED ");
-    io::print_decimal(1, code as u64);
+    io::print_decimal(1, u64::from(code));
     io::write_all(1, b" ");
     io::print_decimal(1, place as u64);
     io::write_all(1, b"\r\n");
@@ -17,12 +17,12 @@ fn print_refusal(code: u8, place: usize) {
 // The room for the written label is as long as any that may be written.
 fn print_relabelled(label: &[u8]) {
     let mut out = [0u8; LONGEST_LABEL];
-    let answer = relabelled(label, &mut out);
-    if answer.code != 0 {
-        print_refusal(answer.code, answer.place);
+    let told = relabelled(label, &mut out);
+    if told.code != 0 {
+        print_refusal(told.code, told.place);
         return;
     }
-    io::write_all(1, part(&out, 0, answer.length));
+    io::write_all(1, part(&out, 0, told.length));
 }
 
 fn main() {

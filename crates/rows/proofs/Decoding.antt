@@ -4,6 +4,7 @@ use mathlib.Core.Bool.{Bool, true, false, cond}
 use mathlib.Core.Path.{◌≡◌, refl, sym, ap, ap₂, subst, ◌∙◌}
 use mathlib.Core.List.{List, [], ◌∷◌, ◌++◌}
 use native.Mathlib.Omega.{arith}
+use Rattle.std.specs.Prelude.{Option, Some, None, Result, Ok, Err}
 use borrow.Author.Rules.{rules}
 use borrow.Author.Tests.{eqb-true, ne_eqb, lt-leb}
 use lib.Dec.{ltb, leb, eqb}
@@ -15,14 +16,13 @@ use Rattle.rules.proofs.Machine.Decoding.{Decoded, nothing, got, decode, field, 
 use Rattle.classes.specs.Places.{part, as_span}
 use Rattle.classes.proofs.Runs.{unroll, joined}
 use Rattle.rows.specs.Rows.{row_of, op_of, longest_row}
-use Rattle.rows.specs.declared.Got.{Got}
-use Rattle.rows.specs.declared.Got.TheVariants.{Nothing, Found}
+use Rattle.rows.specs.declared.UnknownOp.{UnknownOp}
 use Rattle.rows.specs.declared.Row.{Row}
 use Rattle.rows.specs.declared.Row.TheVariants as rows
 use Rattle.rows.specs.declared.Kind.TheVariants as kinds
 use Rattle.rows.specs.declared.Op as op
 use Rattle.rows.specs.declared.Op.TheVariants as ops
-use Rattle.rows.specs.Decoding.{fit, NumberAt, OctetAt, body_of, Body, UnitBody, BodyGives, gives_none, gives_row, Decodes, no_row, a_row}
+use Rattle.rows.specs.Decoding.{fit, NumberAt, OctetAt, body_of, Body, UnitBody, Numbered, BodyGives, gives_none, gives_row, Decodes, no_row, a_row}
 use Rattle.rows.proofs.Octets.{fit_size, fit_whole, signs}
 
 -- ---- how long bodies are
@@ -52,33 +52,33 @@ past n b rest = ap (λ (l : List ℕ). l ++ rest) (drop_of_length-le (fit n b) {
 spans : (b : List ℕ) (x y : ℕ) (f : rule.Span → rule.Row) → NumberAt 2 0 b 0 x → NumberAt 2 0 b 2 y → (rest : List ℕ) → span_then (fit 4 b ++ rest) f ≡ got (f (as_span x y)) rest
 spans b x y f p q rest = p.then 4 (omega arith) rest _ ∙ q.then 4 (omega arith) rest _ ∙ ap (λ (l : List ℕ). got (f (as_span x y)) l) (past 4 b rest)
 
-pub of_body : (k : ℕ) (b : List ℕ) (n : ℕ) {j : ℕ} {r : Row} → k ≡ j → Body j b r → BodyGives k b n (Found r n)
-of_body k b n {j} {r} e h = subst (λ (i : ℕ). BodyGives i b n (Found r n)) (sym e) (gives_row h)
+pub of_body : (k : ℕ) (b : List ℕ) {j : ℕ} {r : Row} → k ≡ j → Body j b r → BodyGives k b (Some r)
+of_body k b {j} {r} e h = subst (λ (i : ℕ). BodyGives i b (Some r)) (sym e) (gives_row h)
 
-module _ (k : ℕ) (b : List ℕ) (n x y : ℕ) where
-  pub attribute_row : k ≡ 1 → NumberAt 2 0 b 0 x → NumberAt 2 0 b 2 y → BodyGives k b n (Found (rows.Attribute x y) n)
+module _ (k : ℕ) (b : List ℕ) (x y : ℕ) where
+  pub attribute_row : k ≡ 1 → NumberAt 2 0 b 0 x → NumberAt 2 0 b 2 y → BodyGives k b (Some (rows.Attribute x y))
   unfolding decode
-  attribute_row e p q = of_body k b n e (record { is = λ rest. spans b x y rule.attribute p q rest })
+  attribute_row e p q = of_body k b e (record { is = λ rest. spans b x y rule.attribute p q rest })
 
-  pub pointer_row : k ≡ 2 → NumberAt 2 0 b 0 x → NumberAt 2 0 b 2 y → BodyGives k b n (Found (rows.Pointer x y) n)
+  pub pointer_row : k ≡ 2 → NumberAt 2 0 b 0 x → NumberAt 2 0 b 2 y → BodyGives k b (Some (rows.Pointer x y))
   unfolding decode
-  pointer_row e p q = of_body k b n e (record { is = λ rest. spans b x y rule.pointer p q rest })
+  pointer_row e p q = of_body k b e (record { is = λ rest. spans b x y rule.pointer p q rest })
 
-  pub object_row : k ≡ 3 → NumberAt 2 0 b 0 x → NumberAt 2 0 b 2 y → BodyGives k b n (Found (rows.Open kinds.Object x y) n)
+  pub object_row : k ≡ 3 → NumberAt 2 0 b 0 x → NumberAt 2 0 b 2 y → BodyGives k b (Some (rows.Open kinds.Object x y))
   unfolding decode
-  object_row e p q = of_body k b n e (record { is = λ rest. spans b x y (rule.opened rule.object) p q rest })
+  object_row e p q = of_body k b e (record { is = λ rest. spans b x y (rule.opened rule.object) p q rest })
 
-  pub group_row : k ≡ 5 → NumberAt 2 0 b 0 x → NumberAt 2 0 b 2 y → BodyGives k b n (Found (rows.Open kinds.Group x y) n)
+  pub group_row : k ≡ 5 → NumberAt 2 0 b 0 x → NumberAt 2 0 b 2 y → BodyGives k b (Some (rows.Open kinds.Group x y))
   unfolding decode
-  group_row e p q = of_body k b n e (record { is = λ rest. spans b x y (rule.opened rule.group) p q rest })
+  group_row e p q = of_body k b e (record { is = λ rest. spans b x y (rule.opened rule.group) p q rest })
 
-  pub text_row_lem : k ≡ 13 → NumberAt 2 0 b 0 x → NumberAt 2 0 b 2 y → BodyGives k b n (Found (rows.Text x y) n)
+  pub text_row_lem : k ≡ 13 → NumberAt 2 0 b 0 x → NumberAt 2 0 b 2 y → BodyGives k b (Some (rows.Text x y))
   unfolding decode
-  text_row_lem e p q = of_body k b n e (record { is = λ rest. spans b x y rule.a_text p q rest })
+  text_row_lem e p q = of_body k b e (record { is = λ rest. spans b x y rule.a_text p q rest })
 
-  pub symbol_row : k ≡ 14 → NumberAt 2 0 b 0 x → NumberAt 2 0 b 2 y → BodyGives k b n (Found (rows.Symbol x y) n)
+  pub symbol_row : k ≡ 14 → NumberAt 2 0 b 0 x → NumberAt 2 0 b 2 y → BodyGives k b (Some (rows.Symbol x y))
   unfolding decode
-  symbol_row e p q = of_body k b n e (record { is = λ rest. spans b x y rule.a_symbol p q rest })
+  symbol_row e p q = of_body k b e (record { is = λ rest. spans b x y rule.a_symbol p q rest })
 
 -- ---- rows without a body
 
@@ -89,37 +89,37 @@ empty n b rest e = rw e
 bare : (j : ℕ) (b : List ℕ) (r : Row) → ((s : List ℕ) → decode (j ∷ s) ≡ got (row_of r) s) → body_of j ≡ 0 → Body j b r
 bare j b r h e = record { is = λ rest. ap (λ (s : List ℕ). decode (j ∷ s)) (empty (body_of j) b rest e) ∙ h rest }
 
-module _ (k : ℕ) (b : List ℕ) (n : ℕ) where
-  pub object_end_row : k ≡ 4 → BodyGives k b n (Found (rows.Close kinds.Object) n)
+module _ (k : ℕ) (b : List ℕ) where
+  pub object_end_row : k ≡ 4 → BodyGives k b (Some (rows.Close kinds.Object))
   unfolding decode
-  object_end_row e = of_body k b n e (bare 4 b _ (λ s. refl) refl)
+  object_end_row e = of_body k b e (bare 4 b _ (λ s. refl) refl)
 
-  pub group_end_row : k ≡ 6 → BodyGives k b n (Found (rows.Close kinds.Group) n)
+  pub group_end_row : k ≡ 6 → BodyGives k b (Some (rows.Close kinds.Group))
   unfolding decode
-  group_end_row e = of_body k b n e (bare 6 b _ (λ s. refl) refl)
+  group_end_row e = of_body k b e (bare 6 b _ (λ s. refl) refl)
 
-  pub sequence_row : k ≡ 20 → BodyGives k b n (Found rows.Sequence n)
+  pub sequence_row : k ≡ 20 → BodyGives k b (Some rows.Sequence)
   unfolding decode
-  sequence_row e = of_body k b n e (bare 20 b _ (λ s. refl) refl)
+  sequence_row e = of_body k b e (bare 20 b _ (λ s. refl) refl)
 
-  pub sequence_end_row : k ≡ 21 → BodyGives k b n (Found rows.SequenceEnd n)
+  pub sequence_end_row : k ≡ 21 → BodyGives k b (Some rows.SequenceEnd)
   unfolding decode
-  sequence_end_row e = of_body k b n e (bare 21 b _ (λ s. refl) refl)
+  sequence_end_row e = of_body k b e (bare 21 b _ (λ s. refl) refl)
 
-  pub set_row : k ≡ 22 → BodyGives k b n (Found rows.Set n)
+  pub set_row : k ≡ 22 → BodyGives k b (Some rows.Set)
   unfolding decode
-  set_row e = of_body k b n e (bare 22 b _ (λ s. refl) refl)
+  set_row e = of_body k b e (bare 22 b _ (λ s. refl) refl)
 
-  pub set_end_row : k ≡ 23 → BodyGives k b n (Found rows.SetEnd n)
+  pub set_end_row : k ≡ 23 → BodyGives k b (Some rows.SetEnd)
   unfolding decode
-  set_end_row e = of_body k b n e (bare 23 b _ (λ s. refl) refl)
+  set_end_row e = of_body k b e (bare 23 b _ (λ s. refl) refl)
 
-  pub last_row : (x : ℕ) → k ≡ 99 → NumberAt 2 0 b 0 x → BodyGives k b n (Found (rows.Last x) n)
+  pub last_row : (x : ℕ) → k ≡ 99 → NumberAt 2 0 b 0 x → BodyGives k b (Some (rows.Last x))
   unfolding decode
-  last_row x e p = of_body k b n e (record { is = λ rest. p.then 2 (omega arith) rest _ ∙ ap (λ (s : List ℕ). got (rule.last x) s) (past 2 b rest) })
+  last_row x e p = of_body k b e (record { is = λ rest. p.then 2 (omega arith) rest _ ∙ ap (λ (s : List ℕ). got (rule.last x) s) (past 2 b rest) })
 
-  pub unit_row : (g : Got) → k ≡ 15 → BodyGives 15 b n g → BodyGives k b n g
-  unit_row g e h = subst (λ (i : ℕ). BodyGives i b n g) (sym e) h
+  pub unit_row : (g : Option Row) → k ≡ 15 → BodyGives 15 b g → BodyGives k b g
+  unit_row g e h = subst (λ (i : ℕ). BodyGives i b g) (sym e) h
 
 -- ---- numbers
 
@@ -164,36 +164,21 @@ unit_of p b v x y z m hv hx hy f g = record {
       ∙ ap (got _) (past 6 b rest);
 }
 
-op_then : (p : op.Op) (b : List ℕ) (n : ℕ) (r : Row) → OctetAt b 0 (op_number (op_of p)) → UnitBody p b r → BodyGives 15 b n (Found r n)
-unfolding decode
-op_then p b n r h u = gives_row (record {
-  is = λ rest. h.then 6 (omega arith) rest _ ∙ ap (λ (t : Bool). cond t (unit_then (op_number (op_of p)) (drop 1 (fit 6 b) ++ rest)) nothing) (small p) ∙ u.is rest;
-})
-  where
-    small : (p : op.Op) → leb (op_number (op_of p)) 2 ≡ true
-    small ops.First = refl
-    small ops.Times = refl
-    small ops.Divided = refl
-
-module _ (b : List ℕ) (n o : ℕ) where
-  pub unit_first : (r : Row) → OctetAt b 0 o → o ≡ 0 → UnitBody ops.First b r → BodyGives 15 b n (Found r n)
-  unit_first r h e u = op_then ops.First b n r (subst (OctetAt b 0) e h) u
-
-  pub unit_times : (r : Row) → OctetAt b 0 o → o ≡ 1 → UnitBody ops.Times b r → BodyGives 15 b n (Found r n)
-  unit_times r h e u = op_then ops.Times b n r (subst (OctetAt b 0) e h) u
-
-  pub unit_divided : (r : Row) → OctetAt b 0 o → o ≡ 2 → UnitBody ops.Divided b r → BodyGives 15 b n (Found r n)
-  unit_divided r h e u = op_then ops.Divided b n r (subst (OctetAt b 0) e h) u
-
-  pub unit_none : OctetAt b 0 o → (o ≡ 0 → ⊥) → (o ≡ 1 → ⊥) → (o ≡ 2 → ⊥) → BodyGives 15 b n Nothing
+module _ (b : List ℕ) (o : ℕ) (n : Result op.Op UnknownOp) (h : OctetAt b 0 o) (d : Numbered o n) where
+  pub unit_some : (p : op.Op) (r : Row) → n ≡ Ok p → UnitBody p b r → BodyGives 15 b (Some r)
   unfolding decode
-  unit_none h x y z = gives_none (λ rest. h.then 6 (omega arith) rest _ ∙ ap (λ (t : Bool). cond t (unit_then o (drop 1 (fit 6 b) ++ rest)) nothing) (lt-leb o 2 (more o x y z)))
+  unit_some p r e u = gives_row (record {
+    is = λ rest. (subst (OctetAt b 0) (sym (subst (Numbered o) e d)) h).then 6 (omega arith) rest _ ∙ ap (λ (t : Bool). cond t (unit_then (op_number (op_of p)) (drop 1 (fit 6 b) ++ rest)) nothing) (small p) ∙ u.is rest;
+  })
     where
-      more : (o : ℕ) → (o ≡ 0 → ⊥) → (o ≡ 1 → ⊥) → (o ≡ 2 → ⊥) → 2 < o
-      more zero x y z = absurd (x refl)
-      more (suc zero) x y z = absurd (y refl)
-      more (suc (suc zero)) x y z = absurd (z refl)
-      more (suc (suc (suc o))) x y z = omega arith
+      small : (p : op.Op) → leb (op_number (op_of p)) 2 ≡ true
+      small ops.First = refl
+      small ops.Times = refl
+      small ops.Divided = refl
+
+  pub unit_none : (x : UnknownOp) → n ≡ Err x → BodyGives 15 b None
+  unfolding decode
+  unit_none x e = gives_none (λ rest. h.then 6 (omega arith) rest _ ∙ ap (λ (t : Bool). cond t (unit_then o (drop 1 (fit 6 b) ++ rest)) nothing) (lt-leb o 2 (subst (Numbered o) e d)))
 
 -- ---- no such kind
 
@@ -221,11 +206,11 @@ unknown k s a b c d e f g h i j l m n o p q r =
       ne_eqb k 99 r,
     )
 
-pub no_kind : (k : ℕ) (t : List ℕ) (next : ℕ) → (k ≡ 1 → ⊥) → (k ≡ 2 → ⊥) → (k ≡ 3 → ⊥) → (k ≡ 4 → ⊥) → (k ≡ 5 → ⊥) → (k ≡ 6 → ⊥) → (k ≡ 10 → ⊥) → (k ≡ 11 → ⊥) → (k ≡ 12 → ⊥) → (k ≡ 13 → ⊥) →
-    (k ≡ 14 → ⊥) → (k ≡ 15 → ⊥) → (k ≡ 20 → ⊥) → (k ≡ 21 → ⊥) → (k ≡ 22 → ⊥) → (k ≡ 23 → ⊥) → (k ≡ 99 → ⊥) → BodyGives k t next Nothing
-no_kind k t next a b c d e f g h i j l m n o p q r = gives_none (λ rest. unknown k (fit (body_of k) t ++ rest) a b c d e f g h i j l m n o p q r)
+pub no_kind : (k : ℕ) (t : List ℕ) → (k ≡ 1 → ⊥) → (k ≡ 2 → ⊥) → (k ≡ 3 → ⊥) → (k ≡ 4 → ⊥) → (k ≡ 5 → ⊥) → (k ≡ 6 → ⊥) → (k ≡ 10 → ⊥) → (k ≡ 11 → ⊥) → (k ≡ 12 → ⊥) → (k ≡ 13 → ⊥) →
+    (k ≡ 14 → ⊥) → (k ≡ 15 → ⊥) → (k ≡ 20 → ⊥) → (k ≡ 21 → ⊥) → (k ≡ 22 → ⊥) → (k ≡ 23 → ⊥) → (k ≡ 99 → ⊥) → BodyGives k t None
+no_kind k t a b c d e f g h i j l m n o p q r = gives_none (λ rest. unknown k (fit (body_of k) t ++ rest) a b c d e f g h i j l m n o p q r)
 
-pub ruleset bodies = (attribute_row, pointer_row, object_row, group_row, text_row_lem, symbol_row, object_end_row, group_end_row, sequence_row, sequence_end_row, set_row, set_end_row, last_row, of_body, unit_row, an_integer, a_real, a_moment, unit_of, unit_first, unit_times, unit_divided, unit_none, no_kind, not_near, not_far, rules)
+pub ruleset bodies = (attribute_row, pointer_row, object_row, group_row, text_row_lem, symbol_row, object_end_row, group_end_row, sequence_row, sequence_end_row, set_row, set_end_row, last_row, of_body, unit_row, an_integer, a_real, a_moment, unit_of, unit_some, unit_none, no_kind, not_near, not_far, rules)
 
 -- ---- the row at a place
 
@@ -287,33 +272,37 @@ short k s h =
     either (eqb k 99) _ _ (λ e. one_short s 2 _ (l 99 e)) (λ _. refl)))))))))))))))))
 
 module _ (lent : List ℕ) (at : ℕ) where
-  pub none_past : length lent ≤ at → Decodes lent at Nothing
+  pub none_past : length lent ≤ at → Decodes lent at None
   unfolding decode
   none_past h = no_row (ap decode (drop_of_length-le lent h))
 
-  pub cut_short : (k e : ℕ) → at < length lent → k ≡ get_or lent at 0 → e ≡ body_of k → length lent - at ≤ e → Decodes lent at Nothing
+  pub cut_short : (k e : ℕ) → at < length lent → k ≡ get_or lent at 0 → e ≡ body_of k → length lent - at ≤ e → Decodes lent at None
   cut_short k e l q b h =
       no_row (ap decode (unroll lent at l) ∙ ap (λ (i : ℕ). decode (i ∷ drop (at + 1) lent)) (sym q) ∙ short k (drop (at + 1) lent) (omega (arith, length-drop (at + 1) lent)))
 
-  pub whole_row : (k e : ℕ) (g : Got) → at < length lent → k ≡ get_or lent at 0 → e ≡ body_of k → e < length lent - at → BodyGives k (part lent (at + 1) (at + 1 + e)) (at + 1 + e) g → Decodes lent at g
-  whole_row k e g l q b h w = go w
-    where
-      body : List ℕ
-      body = part lent (at + 1) (at + 1 + e)
+  module _ (k e : ℕ) (l : at < length lent) (q : k ≡ get_or lent at 0) (b : e ≡ body_of k) (h : e < length lent - at) where
+    abbrev body : List ℕ
+    body = part lent (at + 1) (at + 1 + e)
 
-      size : length body ≡ e
-      size = omega (arith, length-take (at + 1 + e - (at + 1)) (drop (at + 1) lent), length-drop (at + 1) lent)
+    split : decode (drop at lent) ≡ decode (k ∷ (fit (body_of k) body ++ drop (at + 1 + e) lent))
+    split =
+        let size : length body ≡ e = omega (arith, length-take (at + 1 + e - (at + 1)) (drop (at + 1) lent), length-drop (at + 1) lent) in
+        ap decode (unroll lent at l) ∙ ap₂ (λ (i : ℕ) (s : List ℕ). decode (i ∷ s)) (sym q) (sym (joined lent (at + 1) (at + 1 + e) (omega arith)))
+        ∙ ap (λ (s : List ℕ). decode (k ∷ (s ++ drop (at + 1 + e) lent))) (sym (fit_whole (body_of k) body (size ∙ b)))
 
-      split : decode (drop at lent) ≡ decode (k ∷ (fit (body_of k) body ++ drop (at + 1 + e) lent))
-      split =
-          ap decode (unroll lent at l) ∙ ap₂ (λ (i : ℕ) (s : List ℕ). decode (i ∷ s)) (sym q) (sym (joined lent (at + 1) (at + 1 + e) (omega arith)))
-          ∙ ap (λ (s : List ℕ). decode (k ∷ (s ++ drop (at + 1 + e) lent))) (sym (fit_whole (body_of k) body (size ∙ b)))
+    pub whole_row : (g : Option Row) (r : Row) → g ≡ Some r → BodyGives k (part lent (at + 1) (at + 1 + e)) g → Decodes lent at (Some (r, at + 1 + e))
+    whole_row g r f w = go (subst (BodyGives k body) f w)
+      where
+        go : BodyGives k body (Some r) → Decodes lent at (Some (r, at + 1 + e))
+        go (gives_row d) = a_row {next = at + 1 + e} (split ∙ d.is (drop (at + 1 + e) lent)) (omega arith) (omega arith)
 
-      go : {g : Got} → BodyGives k body (at + 1 + e) g → Decodes lent at g
-      go (gives_none f) = no_row (split ∙ f (drop (at + 1 + e) lent))
-      go (gives_row f) = a_row {next = at + 1 + e} (split ∙ f.is (drop (at + 1 + e) lent)) (omega arith) (omega arith)
+    pub no_whole_row : (g : Option Row) → g ≡ None → BodyGives k (part lent (at + 1) (at + 1 + e)) g → Decodes lent at None
+    no_whole_row g f w = go (subst (BodyGives k body) f w)
+      where
+        go : BodyGives k body None → Decodes lent at None
+        go (gives_none d) = no_row (split ∙ d (drop (at + 1 + e) lent))
 
-pub ruleset rowed = (none_past, cut_short, whole_row, rules)
+pub ruleset rowed = (none_past, cut_short, whole_row, no_whole_row, rules)
 
 -- ---- what an answer tells
 
@@ -322,15 +311,15 @@ pub record RowAt (lent : List ℕ) (at : ℕ) (row : Row) (next : ℕ) : Type 0 
   pub further : at < next
   pub within : next ≤ length lent
 
-module _ {lent : List ℕ} {at : ℕ} {g : Got} (d : Decodes lent at g) where
-  pub row_there : {row : Row} {next : ℕ} → g ≡ Found row next → RowAt lent at row next
+module _ {lent : List ℕ} {at : ℕ} {g : Option (Row × ℕ)} (d : Decodes lent at g) where
+  pub row_there : {row : Row} {next : ℕ} → g ≡ Some (row, next) → RowAt lent at row next
   row_there {row} {next} e = go (subst (Decodes lent at) e d)
     where
-      go : Decodes lent at (Found row next) → RowAt lent at row next
+      go : Decodes lent at (Some (row, next)) → RowAt lent at row next
       go (a_row i l m) = record { is = i; further = l; within = m }
 
-  pub none_there : g ≡ Nothing → decode (drop at lent) ≡ nothing
+  pub none_there : g ≡ None → decode (drop at lent) ≡ nothing
   none_there e = go (subst (Decodes lent at) e d)
     where
-      go : Decodes lent at Nothing → decode (drop at lent) ≡ nothing
+      go : Decodes lent at None → decode (drop at lent) ≡ nothing
       go (no_row i) = i

@@ -1,9 +1,9 @@
 -- Numbers out of a body's bytes, as the rules' reader of rows takes them, and two's complement.
-use Prim.Native.Nat.{ℕ, zero, suc, ◌+◌, ◌-◌, ◌*◌, ◌≤◌, ◌<◌}
+use Prim.Native.Nat.{ℕ, zero, suc, ◌+◌, ◌-◌, ◌*◌, ◌^◌, ◌≤◌, ◌<◌}
 use mathlib.Core.Bool.{Bool, true, false, cond}
-use mathlib.Core.Path.{◌≡◌, refl, sym, ap, ◌∙◌}
+use mathlib.Core.Path.{◌≡◌, refl, sym, ap, subst, ◌∙◌}
 use mathlib.Core.List.{List, [], ◌∷◌, ◌++◌}
-use native.Mathlib.Nat.{add_assoc, zero-add}
+use native.Mathlib.Nat.{add_assoc, zero-add, pow-suc, pow-le-pow_right}
 use native.Mathlib.Omega.{arith}
 use borrow.Author.Rules.{rules}
 use borrow.Author.Tests.{lt-ltb, le-leb, lt-leb, leb-true, leb-false}
@@ -44,7 +44,7 @@ fit_turn n b i x h l =
 
 -- ---- fields
 
-pub one_octet : (a : ℕ) (b : List ℕ) (i x : ℕ) → ByteAt b i x → x < 256 → NumberAt 1 a b i (a * 256 + x)
+one_octet : (a : ℕ) (b : List ℕ) (i x : ℕ) → ByteAt b i x → x < 256 → NumberAt 1 a b i (a * 256 + x)
 unfolding field
 one_octet a b i x h l = record { then = λ n k rest f. go n k rest f }
   where
@@ -72,14 +72,30 @@ together k j a b i h r p q = record {
       ∙ ap (λ (m : ℕ). f r (drop m (fit n b) ++ rest)) (add_assoc i k j);
 }
 
-pub two_octets : (a : ℕ) (b : List ℕ) (i h r : ℕ) → NumberAt 1 a b i h → NumberAt 1 h b (i + 1) r → NumberAt 2 a b i r
-two_octets = together 1 1
+-- a number of so many bytes, and its bound
+pub record Number (k : ℕ) (b : List ℕ) (i v : ℕ) : Type 0 where
+  pub at : NumberAt k 0 b i v
+  pub small : v < 256 ^ k
 
-pub four_octets : (a : ℕ) (b : List ℕ) (i h r : ℕ) → NumberAt 2 a b i h → NumberAt 2 h b (i + 2) r → NumberAt 4 a b i r
-four_octets = together 2 2
+pub no_octets : (b : List ℕ) (i : ℕ) → Number 0 b i 0
+unfolding field
+no_octets b i = record {
+  at = record { then = λ n k rest f. let e : i ≡ i + 0 = omega arith in ap (λ (m : ℕ). f 0 (drop m (fit n b) ++ rest)) e };
+  small = omega arith;
+}
 
-pub eight_octets : (a : ℕ) (b : List ℕ) (i h r : ℕ) → NumberAt 4 a b i h → NumberAt 4 h b (i + 4) r → NumberAt 8 a b i r
-eight_octets = together 4 4
+pub one_more : (k : ℕ) (b : List ℕ) (i v x y : ℕ) → Number k b i v → ByteAt b (i + k) x → x < 256 → y ≡ x → Number (k + 1) b i (v * 256 + y)
+one_more k b i v x y w h l e = subst (λ (z : ℕ). Number (k + 1) b i (v * 256 + z)) (sym e) (record {
+  at = together k 1 0 b i v (v * 256 + x) w.at (one_octet v b (i + k) x h l);
+  small = let p : 256 ^ (k + 1) ≡ 256 ^ k * 256 = pow_more k in omega (arith, p, w.small);
+})
+  where
+    pow_more : (k : ℕ) → 256 ^ (k + 1) ≡ 256 ^ k * 256
+    pow_more k = let e : k + 1 ≡ suc k = omega arith in ap (λ (n : ℕ). 256 ^ n) e ∙ pow-suc 256 k
+
+-- another byte of no more than eight fits the code's number
+pub in_reach : (k v x : ℕ) → k < 8 → v < 256 ^ k → x < 256 → v * 256 + x < 18446744073709551616
+in_reach k v x h l m = let p : 256 ^ k ≤ 256 ^ 7 = pow-le-pow_right {n = 256} (omega arith) {i = k} {j = 7} (omega arith) in omega (arith, p)
 
 -- ---- two's complement
 
@@ -102,4 +118,4 @@ signs K half v m z e f g = go (leb half v) refl
         let a : leb K (2 * v) ≡ false = lt-leb K (2 * v) (omega (arith, leb-false half v h)) in
         rw (a, f, g, h)
 
-pub ruleset numbers = (one_octet, an_octet, two_octets, four_octets, eight_octets, size_minus, size_plain, rules)
+pub ruleset numbers = (an_octet, no_octets, one_more, in_reach, size_minus, size_plain, rules)

@@ -1,23 +1,24 @@
 -- No second outcome meets the contracts of this crate.
 use Prim.Native.Nat.{ℕ, ◌+◌, ◌-◌, ◌<◌, ◌^◌}
 use native.Mathlib.Omega.{arith}
-use mathlib.Core.Path.{◌≡◌, refl, sym, ap, ap₂, ◌∙◌}
+use Rattle.std.specs.Prelude.{Option, Some, None, Result, Ok, Err}
+use mathlib.Core.Path.{◌≡◌, refl, sym, ap, ◌∙◌}
 use mathlib.Core.List.{List, [], ◌∷◌, head-eq_of_cons-eq}
 use lib.ListN.{length, drop, length-drop}
 use Rattle.rules.specs.Data as rule
-use Rattle.rules.specs.Table.{bytes}
+use Rattle.rules.specs.Table.{bytes, op_number}
 use Rattle.rules.proofs.Tables.Numbers.{value_onto, bytes_back}
-use Rattle.rules.proofs.Machine.Decoding.{Decoded, nothing, got, decode}
+use Rattle.rules.proofs.Machine.Decoding.{Decoded, nothing, got, decode, op_numbered}
 use Rattle.rules.proofs.Tables.DecodeComplete.{got_same, nothing_got}
-use Rattle.rows.specs.Rows.{row_of, Wrote}
+use Rattle.rows.specs.Rows.{op_of, row_of, Wrote}
 use Rattle.words.proofs.Once.{real_of_lem, moment_of_lem}
-use Rattle.rows.specs.Decoding.{NumberAt, OctetAt, BodyGives, gives_none, gives_row, Decodes, no_row, a_row, kind_back, op_back}
+use Rattle.rows.specs.Decoding.{NumberAt, OctetAt, Numbered, BodyGives, gives_none, gives_row, Decodes, no_row, a_row, kind_back, op_back}
 use Rattle.rows.specs.declared.Kind.TheVariants as kinds
+use Rattle.rows.specs.declared.Op.{Op}
 use Rattle.rows.specs.declared.Op.TheVariants as ops
+use Rattle.rows.specs.declared.UnknownOp.{UnknownOp}
 use Rattle.rows.specs.declared.Row.{Row}
 use Rattle.rows.specs.declared.Row.TheVariants as rows
-use Rattle.rows.specs.declared.Got.{Got}
-use Rattle.rows.specs.declared.Got.TheVariants.{Nothing, Found}
 
 -- ---- into bytes
 
@@ -46,6 +47,24 @@ number_once {k} {a} {i} {b = b} x y = same_number (sym (x.then (i + k) (omega ar
 pub octet_once : {i r r' : ℕ} {b : List ℕ} → OctetAt b i r → OctetAt b i r' → r ≡ r'
 octet_once {i} x y = same_number (sym (x.then (i + 1) (omega arith) [] handed) ∙ y.then (i + 1) (omega arith) [] handed)
 
+-- ---- an operator by its number
+
+op_again : (p : Op) → op_back (op_numbered (op_number (op_of p))) ≡ p
+op_again ops.First = refl
+op_again ops.Times = refl
+op_again ops.Divided = refl
+
+no_further : (p : Op) {n : ℕ} → op_number (op_of p) ≡ n → 2 < n → ⊥
+no_further ops.First e h = omega arith
+no_further ops.Times e h = omega arith
+no_further ops.Divided e h = omega arith
+
+pub op_once : (n : ℕ) {r r' : Result Op UnknownOp} → Numbered n r → Numbered n r' → r ≡ r'
+op_once n {r = Ok p} {r' = Ok q} x y = ap Ok (sym (op_again p) ∙ ap (λ (n : ℕ). op_back (op_numbered n)) (x ∙ sym y) ∙ op_again q)
+op_once n {r = Ok p} {r' = Err e} x y = absurd (no_further p x y)
+op_once n {r = Err e} {r' = Ok q} x y = absurd (no_further q y x)
+op_once n {r = Err e} {r' = Err f} x y = refl
+
 -- ---- rows out of bytes
 
 -- the code's row for a row of the rules
@@ -67,12 +86,12 @@ row_back rule.set_end = rows.SetEnd
 row_back (rule.last n) = rows.Last n
 
 -- and for what the reader of rows gives, in a table of this size
-abbrev got_in : ℕ → Decoded → Got
-got_in size nothing = Nothing
-got_in size (got r s) = Found (row_back r) (size - length s)
+abbrev got_in : ℕ → Decoded → Option (Row × ℕ)
+got_in size nothing = None
+got_in size (got r s) = Some (row_back r, size - length s)
 
 -- the answer at a place of any table, past its end too
-unfoldable got_at : List ℕ → ℕ → Got
+unfoldable got_at : List ℕ → ℕ → Option (Row × ℕ)
 got_at lent at = got_in (length lent) (decode (drop at lent))
 
 again : (r : Row) → row_back (row_of r) ≡ r
@@ -100,18 +119,21 @@ again (rows.Last a) = refl
 pub row_once : {r r' : Row} → row_of r ≡ row_of r' → r ≡ r'
 row_once {r} {r'} e = sym (again r) ∙ ap row_back e ∙ again r'
 
-pub body_once : {k n : ℕ} {b : List ℕ} {g g' : Got} → BodyGives k b n g → BodyGives k b n g' → g ≡ g'
+pub body_once : {k : ℕ} {b : List ℕ} {g g' : Option Row} → BodyGives k b g → BodyGives k b g' → g ≡ g'
 body_once (gives_none e) (gives_none f) = refl
 body_once (gives_none e) (gives_row f) = absurd (nothing_got (sym (e []) ∙ f.is []))
 body_once (gives_row e) (gives_none f) = absurd (nothing_got (sym (f []) ∙ e.is []))
-body_once {n = n} (gives_row e) (gives_row f) = ap (λ (r : Row). Found r n) (row_once (got_same (sym (e.is []) ∙ f.is [])).0)
+body_once (gives_row e) (gives_row f) = ap (λ (r : Row). Some r) (row_once (got_same (sym (e.is []) ∙ f.is [])).0)
 
-row_at_is : {lent : List ℕ} {at : ℕ} {g : Got} → Decodes lent at g → g ≡ got_at lent at
+pub same_row : {r r' : Row} {n n' : ℕ} → r ≡ r' → n ≡ n' → ◌≡◌ {A = Option (Row × ℕ)} (Some (r, n)) (Some (r', n'))
+same_row e f = rw (e, f)
+
+row_at_is : {lent : List ℕ} {at : ℕ} {g : Option (Row × ℕ)} → Decodes lent at g → g ≡ got_at lent at
 unfolding got_at
 row_at_is {lent} (no_row e) = sym (ap (got_in (length lent)) e)
 row_at_is {lent} (a_row {row} {next} e l m) =
     let n : next ≡ length lent - length (drop next lent) = omega (arith, length-drop next lent) in
-    ap₂ Found (sym (again row)) n ∙ sym (ap (got_in (length lent)) e)
+    same_row (sym (again row)) n ∙ sym (ap (got_in (length lent)) e)
 
-pub row_at_once : {lent : List ℕ} {at : ℕ} {g g' : Got} → Decodes lent at g → Decodes lent at g' → g ≡ g'
+pub row_at_once : {lent : List ℕ} {at : ℕ} {g g' : Option (Row × ℕ)} → Decodes lent at g → Decodes lent at g' → g ≡ g'
 row_at_once x y = row_at_is x ∙ sym (row_at_is y)

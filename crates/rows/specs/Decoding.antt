@@ -1,5 +1,5 @@
 -- Bytes as the rules' reader of rows takes them: numbers and rows out of bodies, and the row at a place of any table.
-use Rattle.std.specs.Prelude.{ℕ, zero, suc, ◌+◌, ◌-◌, ◌≤◌, ◌<◌, cond, ◌≡◌, List, [], ◌∷◌, ◌++◌, eqb, length, drop}
+use Rattle.std.specs.Prelude.{ℕ, zero, suc, ◌+◌, ◌-◌, ◌≤◌, ◌<◌, cond, ◌≡◌, List, [], ◌∷◌, ◌++◌, eqb, length, drop, Option, Some, None, Result, MatchResult}
 use Rattle.rules.specs.Data as rule
 use Rattle.rules.specs.Table.{op_number}
 use Rattle.rules.proofs.Machine.Decoding.{Decoded, nothing, got, decode, field, byte_then, unit_then}
@@ -8,9 +8,8 @@ use Rattle.rows.specs.declared.Kind as kind
 use Rattle.rows.specs.declared.Kind.TheVariants as kinds
 use Rattle.rows.specs.declared.Op as op
 use Rattle.rows.specs.declared.Op.TheVariants as ops
+use Rattle.rows.specs.declared.UnknownOp.{UnknownOp}
 use Rattle.rows.specs.declared.Row.{Row}
-use Rattle.rows.specs.declared.Got.{Got}
-use Rattle.rows.specs.declared.Got.TheVariants.{Nothing, Found}
 
 -- the first n bytes of a body, and 0 for each that it lacks
 unfoldable pub fit : ℕ → List ℕ → List ℕ
@@ -38,20 +37,24 @@ body_of k =
 pub record Body (k : ℕ) (b : List ℕ) (r : Row) : Type 0 where
   pub is : (rest : List ℕ) → decode (k ∷ (fit (body_of k) b ++ rest)) ≡ got (row_of r) rest
 
+-- the operator that has a number, and none where the number is past them
+abbrev pub Numbered : ℕ → Result op.Op UnknownOp → Type 0
+Numbered n r = MatchResult r (λ p. op_number (op_of p) ≡ n) (λ e. 2 < n)
+
 -- a unit with this operator, its byte gone before
 pub record UnitBody (p : op.Op) (b : List ℕ) (r : Row) : Type 0 where
   pub is : (rest : List ℕ) → unit_then (op_number (op_of p)) (drop 1 (fit 6 b) ++ rest) ≡ got (row_of r) rest
 
--- the row of kind k with the body b, if there is one, and the place after it
-pub data BodyGives (k : ℕ) (b : List ℕ) (next : ℕ) : Got → Type 0 where
-  gives_none : ((rest : List ℕ) → decode (k ∷ (fit (body_of k) b ++ rest)) ≡ nothing) → BodyGives k b next Nothing
-  gives_row : {r : Row} → Body k b r → BodyGives k b next (Found r next)
+-- the row of kind k with the body b, if there is one
+pub data BodyGives (k : ℕ) (b : List ℕ) : Option Row → Type 0 where
+  gives_none : ((rest : List ℕ) → decode (k ∷ (fit (body_of k) b ++ rest)) ≡ nothing) → BodyGives k b None
+  gives_row : {r : Row} → Body k b r → BodyGives k b (Some r)
 
 -- the row at a place of any table, and the place after it
-pub data Decodes (lent : List ℕ) (at : ℕ) : Got → Type 0 where
-  no_row : decode (drop at lent) ≡ nothing → Decodes lent at Nothing
+pub data Decodes (lent : List ℕ) (at : ℕ) : Option (Row × ℕ) → Type 0 where
+  no_row : decode (drop at lent) ≡ nothing → Decodes lent at None
   a_row : {row : Row} {next : ℕ} → decode (drop at lent) ≡ got (row_of row) (drop next lent) →
-      at < next → next ≤ length lent → Decodes lent at (Found row next)
+      at < next → next ≤ length lent → Decodes lent at (Some (row, next))
 
 -- ---- back from the rules to the code
 

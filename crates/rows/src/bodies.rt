@@ -2,9 +2,9 @@
 ghost use Rattle.std.specs.Prelude.{◌≡◌, ◌≤◌};
 ghost use Rattle.rows.specs.Decoding.{NumberAt, body_of, Body, UnitBody, BodyGives};
 
-use crate::fields::{eight_at, four_at, is_minus, octet, one_at, size_of, two_at};
+use crate::fields::{is_minus, number_at, octet, size_of};
 use crate::{
-    ATTRIBUTE, CLOSE_GROUP, CLOSE_OBJECT, Got, INTEGER, Kind, LAST, LONGEST_ROW, OPEN_GROUP,
+    ATTRIBUTE, CLOSE_GROUP, CLOSE_OBJECT, INTEGER, Kind, LAST, LONGEST_ROW, OPEN_GROUP,
     OPEN_OBJECT, Op, POINTER, REAL, Row, SEQUENCE, SEQUENCE_END, SET, SET_END, SYMBOL, TEXT, TIME,
     UNIT,
 };
@@ -22,21 +22,21 @@ fn place(b: &[u8], i: usize) -> usize
     requires { i ≤ 100 }
     ensures { NumberAt 2 0 b.now i result }
 {
-    two_at(b, i) as usize
+    number_at::<2>(b, i) as usize
 }
 
 fn integer(b: &[u8]) -> Row
     ensures { Body 10 b.now result }
 {
-    let v = eight_at(b, 0);
+    let v = number_at::<8>(b, 0);
     Row::Integer(is_minus(v, HALF_OF_8), size_of(v, HALF_OF_8))
 }
 
 fn float(b: &[u8]) -> Row
     ensures { Body 11 b.now result }
 {
-    let v = eight_at(b, 0);
-    let p = two_at(b, 8);
+    let v = number_at::<8>(b, 0);
+    let p = number_at::<2>(b, 8);
     Row::Float(Real {
         minus: is_minus(v, HALF_OF_8),
         number: size_of(v, HALF_OF_8),
@@ -48,9 +48,9 @@ fn float(b: &[u8]) -> Row
 fn time(b: &[u8]) -> Row
     ensures { Body 12 b.now result }
 {
-    let y = two_at(b, 1);
-    let n = four_at(b, 8);
-    let o = two_at(b, 12);
+    let y = number_at::<2>(b, 1);
+    let n = number_at::<4>(b, 8);
+    let o = number_at::<2>(b, 12);
     Row::Time(Moment {
         parts: octet(b, 0),
         year: y as u16,
@@ -70,7 +70,7 @@ fn time(b: &[u8]) -> Row
 fn unit_of(op: Op, b: &[u8]) -> Row
     ensures { UnitBody op b.now result }
 {
-    let v = one_at(b, 5);
+    let v = number_at::<1>(b, 5);
     Row::Unit(
         op,
         place(b, 1),
@@ -80,15 +80,12 @@ fn unit_of(op: Op, b: &[u8]) -> Row
     )
 }
 
-fn unit(b: &[u8], next: usize) -> Got
-    ensures { BodyGives 15 b.now next result }
+fn unit(b: &[u8]) -> Option<Row>
+    ensures { BodyGives 15 b.now result }
 {
-    let op = octet(b, 0);
-    match op {
-        0 => Got::Found(unit_of(Op::First, b), next),
-        1 => Got::Found(unit_of(Op::Times, b), next),
-        2 => Got::Found(unit_of(Op::Divided, b), next),
-        _ => Got::Nothing,
+    match Op::try_from(octet(b, 0)) {
+        Ok(op) => Some(unit_of(op, b)),
+        Err(_) => None,
     }
 }
 
@@ -114,33 +111,33 @@ pub fn body_len(k: u8) -> usize
     }
 }
 
-// The row of this kind with this body, and the place after it, which is given; nothing where no row is such. The last row is tested apart here too.
-pub fn row_of(k: u8, b: &[u8], next: usize) -> Got
-    ensures { BodyGives k b.now next result }
+// The row of this kind with this body; nothing where no row is such. The last row is tested apart here too.
+pub fn row_of(k: u8, b: &[u8]) -> Option<Row>
+    ensures { BodyGives k b.now result }
 {
     if SET_END < k {
         if k == LAST {
-            return Got::Found(Row::Last(place(b, 0)), next);
+            return Some(Row::Last(place(b, 0)));
         }
-        return Got::Nothing;
+        return None;
     }
     match k {
-        ATTRIBUTE => Got::Found(Row::Attribute(place(b, 0), place(b, 2)), next),
-        POINTER => Got::Found(Row::Pointer(place(b, 0), place(b, 2)), next),
-        OPEN_OBJECT => Got::Found(Row::Open(Kind::Object, place(b, 0), place(b, 2)), next),
-        CLOSE_OBJECT => Got::Found(Row::Close(Kind::Object), next),
-        OPEN_GROUP => Got::Found(Row::Open(Kind::Group, place(b, 0), place(b, 2)), next),
-        CLOSE_GROUP => Got::Found(Row::Close(Kind::Group), next),
-        INTEGER => Got::Found(integer(b), next),
-        REAL => Got::Found(float(b), next),
-        TIME => Got::Found(time(b), next),
-        TEXT => Got::Found(Row::Text(place(b, 0), place(b, 2)), next),
-        SYMBOL => Got::Found(Row::Symbol(place(b, 0), place(b, 2)), next),
-        UNIT => unit(b, next),
-        SEQUENCE => Got::Found(Row::Sequence, next),
-        SEQUENCE_END => Got::Found(Row::SequenceEnd, next),
-        SET => Got::Found(Row::Set, next),
-        SET_END => Got::Found(Row::SetEnd, next),
-        _ => Got::Nothing,
+        ATTRIBUTE => Some(Row::Attribute(place(b, 0), place(b, 2))),
+        POINTER => Some(Row::Pointer(place(b, 0), place(b, 2))),
+        OPEN_OBJECT => Some(Row::Open(Kind::Object, place(b, 0), place(b, 2))),
+        CLOSE_OBJECT => Some(Row::Close(Kind::Object)),
+        OPEN_GROUP => Some(Row::Open(Kind::Group, place(b, 0), place(b, 2))),
+        CLOSE_GROUP => Some(Row::Close(Kind::Group)),
+        INTEGER => Some(integer(b)),
+        REAL => Some(float(b)),
+        TIME => Some(time(b)),
+        TEXT => Some(Row::Text(place(b, 0), place(b, 2))),
+        SYMBOL => Some(Row::Symbol(place(b, 0), place(b, 2))),
+        UNIT => unit(b),
+        SEQUENCE => Some(Row::Sequence),
+        SEQUENCE_END => Some(Row::SequenceEnd),
+        SET => Some(Row::Set),
+        SET_END => Some(Row::SetEnd),
+        _ => None,
     }
 }

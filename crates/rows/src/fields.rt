@@ -1,6 +1,6 @@
 // Numbers out of the bytes of a row's body: high byte first, and two's complement into a sign and a size. A body too short is read as
 // though zeros followed.
-ghost use Rattle.std.specs.Prelude.{◌≡◌, cond, ◌+◌, ◌-◌, ◌*◌, ◌<◌, ◌≤◌, leb};
+ghost use Rattle.std.specs.Prelude.{◌≡◌, cond, ◌+◌, ◌-◌, ◌^◌, ◌<◌, ◌≤◌, leb};
 ghost use Rattle.rows.specs.Decoding.{NumberAt, OctetAt};
 
 use classes::byte_at;
@@ -12,56 +12,16 @@ pub fn octet(b: &[u8], i: usize) -> u8
     byte_at(b, i)
 }
 
-fn one_onto(a: u64, b: &[u8], i: usize) -> u64
-    requires { a < 72057594037927936 }
-    ensures { NumberAt 1 a b.now i result × (result < 256 + a * 256) }
+// The number that N bytes from a place on are.
+pub fn number_at<const N: usize>(b: &[u8], i: usize) -> u64
+    requires { (N ≤ 8) × (i + N ≤ 18446744073709551616) }
+    ensures { NumberAt N 0 b.now i result × (result < 256 ^ N) }
 {
-    let x = byte_at(b, i);
-    a * 256 + (x as u64)
-}
-
-pub fn one_at(b: &[u8], i: usize) -> u64
-    ensures { NumberAt 1 0 b.now i result × (result < 256) }
-{
-    one_onto(0, b, i)
-}
-
-fn two_onto(a: u64, b: &[u8], i: usize) -> u64
-    requires { (a < 281474976710656) × (i ≤ 100) }
-    ensures { NumberAt 2 a b.now i result × (result < 65536 + a * 65536) }
-{
-    let h = one_onto(a, b, i);
-    one_onto(h, b, i + 1)
-}
-
-pub fn two_at(b: &[u8], i: usize) -> u64
-    requires { i ≤ 100 }
-    ensures { NumberAt 2 0 b.now i result × (result < 65536) }
-{
-    two_onto(0, b, i)
-}
-
-fn four_onto(a: u64, b: &[u8], i: usize) -> u64
-    requires { (a < 4294967296) × (i ≤ 90) }
-    ensures { NumberAt 4 a b.now i result × (result < 4294967296 + a * 4294967296) }
-{
-    let h = two_onto(a, b, i);
-    two_onto(h, b, i + 2)
-}
-
-pub fn four_at(b: &[u8], i: usize) -> u64
-    requires { i ≤ 90 }
-    ensures { NumberAt 4 0 b.now i result × (result < 4294967296) }
-{
-    four_onto(0, b, i)
-}
-
-pub fn eight_at(b: &[u8], i: usize) -> u64
-    requires { i ≤ 80 }
-    ensures { NumberAt 8 0 b.now i result }
-{
-    let h = four_onto(0, b, i);
-    four_onto(h, b, i + 4)
+    let mut v = 0;
+    for j in 0..N {
+        v = v * 256 + u64::from(byte_at(b, i + j));
+    }
+    v
 }
 
 // Whether a number in two's complement is below zero: half is where those numbers begin.

@@ -7,9 +7,9 @@ mod fields; // fields.rt: numbers out of bytes
 mod bodies; // bodies.rt: a row out of its body
 
 ghost use Rattle.std.specs.Prelude.{◌≡◌, ◌≤◌, length};
-ghost use Rattle.rules.specs.Table.{op_number, open_kind, close_kind, encode};
-ghost use Rattle.rows.specs.Rows.{kind_of, op_of, row_of, Wrote};
-ghost use Rattle.rows.specs.Decoding.{Decodes};
+ghost use Rattle.rules.specs.Table.{open_kind, close_kind, encode};
+ghost use Rattle.rows.specs.Rows.{kind_of, row_of, Wrote};
+ghost use Rattle.rows.specs.Decoding.{Numbered, Decodes};
 
 use bodies::{body_len, row_of};
 use numbers::{encode_byte, twos8, twos16, twos64};
@@ -26,12 +26,31 @@ pub enum Kind {
 // So many blocks may be open, one in the other.
 pub const DEEPEST: usize = 80;
 
-// How a unit stands in its expression.
+// How a unit stands in its expression, with its number in the table.
 #[derive(Clone, Copy)]
 pub enum Op {
-    First,
-    Times,
-    Divided,
+    First = 0,
+    Times = 1,
+    Divided = 2,
+}
+
+// A number that no operator has.
+#[derive(Clone, Copy)]
+pub struct UnknownOp;
+
+impl TryFrom<u8> for Op {
+    type Error = UnknownOp;
+
+    ghost try_from_gives = { Numbered };
+
+    fn try_from(number: u8) -> Result<Self, UnknownOp> {
+        match number {
+            0 => Ok(Op::First),
+            1 => Ok(Op::Times),
+            2 => Ok(Op::Divided),
+            _ => Err(UnknownOp),
+        }
+    }
 }
 
 // What a scalar is a member of.
@@ -61,13 +80,6 @@ pub enum Row {
     Set,
     SetEnd,
     Last(usize),
-}
-
-// The row at a place of a table and the place after it.
-#[derive(Clone, Copy)]
-pub enum Got {
-    Nothing,
-    Found(Row, usize),
 }
 
 // The bytes of the longest rows, those of dates and times.
@@ -139,16 +151,6 @@ pub fn encoded_len(row: Row) -> usize
     short_len(row) as usize
 }
 
-fn op_number(op: Op) -> u8
-    ensures { result ≡ op_number (op_of op) }
-{
-    match op {
-        Op::First => 0,
-        Op::Times => 1,
-        Op::Divided => 2,
-    }
-}
-
 // The kind of the row that opens a block.
 pub fn open_kind(k: Kind) -> u8
     ensures { result ≡ open_kind (kind_of k) }
@@ -184,7 +186,7 @@ pub fn encode(out: &mut [u8], row: Row) -> usize
         Row::Time(x) => encode_moment(out, x, twos16(x.west, x.offset)),
         Row::Text(a, b) => encode_span(out, TEXT, a, b),
         Row::Symbol(a, b) => encode_span(out, SYMBOL, a, b),
-        Row::Unit(op, a, b, m, v) => encode_unit(out, op_number(op), a, b, twos8(m, v)),
+        Row::Unit(op, a, b, m, v) => encode_unit(out, op as u8, a, b, twos8(m, v)),
         Row::Sequence => encode_byte(out, SEQUENCE),
         Row::SequenceEnd => encode_byte(out, SEQUENCE_END),
         Row::Set => encode_byte(out, SET),
@@ -193,19 +195,20 @@ pub fn encode(out: &mut [u8], row: Row) -> usize
     }
 }
 
-// Nothing past the table's end, of a row that is cut short, and of bytes that are no row.
-pub fn row_at(table: &[u8], at: usize) -> Got
+// The row at a place of a table and the place after it; nothing past the table's end, of a row that is cut short, and of bytes that are no row.
+pub fn row_at(table: &[u8], at: usize) -> Option<(Row, usize)>
     ensures { Decodes table.now at result }
 {
     let n = table.len();
     if n <= at {
-        return Got::Nothing;
+        return None;
     }
     let k = table[at];
     let e = body_len(k);
     if n - at <= e {
-        return Got::Nothing;
+        return None;
     }
     let next = at + 1 + e;
-    row_of(k, &table[at + 1..next], next)
+    let row = row_of(k, &table[at + 1..next])?;
+    Some((row, next))
 }

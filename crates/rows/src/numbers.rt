@@ -12,41 +12,24 @@ pub fn encode_byte(out: &mut [u8], v: u8) -> usize
     1
 }
 
-pub fn encode_two(out: &mut [u8], v: u64) -> usize
-    requires { 2 ≤ length out.old }
-    ensures { Wrote (bytes 2 v) out.old out.new result }
+// The number's last N bytes.
+pub fn encode_number<const N: usize>(out: &mut [u8], v: u64) -> usize
+    requires { N ≤ length out.old }
+    ensures { Wrote (bytes N v) out.old out.new result }
 {
-    out[0] = (v / 256 % 256) as u8;
-    out[1] = (v % 256) as u8;
-    2
-}
-
-pub fn encode_four(out: &mut [u8], v: u64) -> usize
-    requires { 4 ≤ length out.old }
-    ensures { Wrote (bytes 4 v) out.old out.new result }
-{
-    let n = encode_two(out, v / 0x1_0000);
-    let m = encode_two(&mut out[n..], v);
-    n + m
-}
-
-pub fn encode_eight(out: &mut [u8], v: u64) -> usize
-    requires { 8 ≤ length out.old }
-    ensures { Wrote (bytes 8 v) out.old out.new result }
-{
-    let n = encode_four(out, v / 0x1_0000_0000);
-    let m = encode_four(&mut out[n..], v);
-    n + m
+    let mut left = v;
+    for i in (0..N).rev() {
+        out[i] = (left % 256) as u8;
+        left /= 256;
+    }
+    N
 }
 
 pub fn twos64(minus: bool, v: u64) -> u64
     ensures { bytes 8 result ≡ complement 8 (whole minus v) }
 {
     if minus {
-        if v == 0 {
-            return 0;
-        }
-        return 0xffff_ffff_ffff_ffff - v + 1;
+        return v.wrapping_neg();
     }
     v
 }
@@ -54,7 +37,7 @@ pub fn twos64(minus: bool, v: u64) -> u64
 pub fn twos16(minus: bool, v: u16) -> u64
     ensures { result ≡ cond minus (65536 - v) v }
 {
-    let n = v as u64;
+    let n = u64::from(v);
     if minus {
         return 65536 - n;
     }
@@ -65,10 +48,7 @@ pub fn twos8(minus: bool, v: u64) -> u8
     ensures { result ∷ [] ≡ complement 1 (whole minus v) }
 {
     if minus {
-        if 256 <= v {
-            return 0;
-        }
-        return ((256 - v) % 256) as u8;
+        return (256u64.saturating_sub(v) % 256) as u8;
     }
     (v % 256) as u8
 }

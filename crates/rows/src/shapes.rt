@@ -3,7 +3,7 @@ ghost use Rattle.std.specs.Prelude.{[], ◌∷◌, ◌++◌, ◌≤◌, length};
 ghost use Rattle.rules.specs.Table.{bytes};
 ghost use Rattle.rows.specs.Rows.{longest_row, Wrote};
 
-use crate::numbers::{encode_byte, encode_eight, encode_four, encode_two};
+use crate::numbers::{encode_byte, encode_number};
 use crate::{INTEGER, LAST, REAL, TIME, UNIT};
 use words::Moment;
 
@@ -12,8 +12,8 @@ pub fn encode_span(out: &mut [u8], kind: u8, a: usize, b: usize) -> usize
     ensures { Wrote (kind ∷ (bytes 2 a ++ bytes 2 b)) out.old out.new result }
 {
     let n = encode_byte(out, kind);
-    let m = n + encode_two(&mut out[n..], a as u64);
-    let j = encode_two(&mut out[m..], b as u64);
+    let m = n + encode_number::<2>(&mut out[n..], a as u64);
+    let j = encode_number::<2>(&mut out[m..], b as u64);
     m + j
 }
 
@@ -22,7 +22,7 @@ pub fn encode_integer(out: &mut [u8], v: u64) -> usize
     ensures { Wrote (10 ∷ bytes 8 v) out.old out.new result }
 {
     let n = encode_byte(out, INTEGER);
-    let m = encode_eight(&mut out[n..], v);
+    let m = encode_number::<8>(&mut out[n..], v);
     n + m
 }
 
@@ -31,8 +31,8 @@ pub fn encode_real(out: &mut [u8], number: u64, power: u64) -> usize
     ensures { Wrote (11 ∷ (bytes 8 number ++ bytes 2 power)) out.old out.new result }
 {
     let n = encode_byte(out, REAL);
-    let m = n + encode_eight(&mut out[n..], number);
-    let k = encode_two(&mut out[m..], power);
+    let m = n + encode_number::<8>(&mut out[n..], number);
+    let k = encode_number::<2>(&mut out[m..], power);
     m + k
 }
 
@@ -43,7 +43,7 @@ fn encode_date(out: &mut [u8], x: Moment) -> usize
 {
     let n = encode_byte(out, TIME);
     let m = n + encode_byte(&mut out[n..], x.parts);
-    let k = m + encode_two(&mut out[m..], x.year as u64);
+    let k = m + encode_number::<2>(&mut out[m..], u64::from(x.year));
     let j = k + encode_byte(&mut out[k..], x.month);
     let i = encode_byte(&mut out[j..], x.day);
     j + i
@@ -57,7 +57,7 @@ fn encode_clock(out: &mut [u8], x: Moment) -> usize
     let n = encode_byte(out, x.hour);
     let m = n + encode_byte(&mut out[n..], x.minute);
     let k = m + encode_byte(&mut out[m..], x.second);
-    let j = encode_four(&mut out[k..], x.nanoseconds as u64);
+    let j = encode_number::<4>(&mut out[k..], u64::from(x.nanoseconds));
     k + j
 }
 
@@ -67,7 +67,7 @@ pub fn encode_moment(out: &mut [u8], x: Moment, offset: u64) -> usize
 {
     let n = encode_date(out, x);
     let m = n + encode_clock(&mut out[n..], x);
-    let k = m + encode_two(&mut out[m..], offset);
+    let k = m + encode_number::<2>(&mut out[m..], offset);
     let j = encode_byte(&mut out[k..], x.mark);
     k + j
 }
@@ -78,8 +78,8 @@ pub fn encode_unit(out: &mut [u8], op: u8, a: usize, b: usize, exponent: u8) -> 
 {
     let n = encode_byte(out, UNIT);
     let m = n + encode_byte(&mut out[n..], op);
-    let k = m + encode_two(&mut out[m..], a as u64);
-    let j = k + encode_two(&mut out[k..], b as u64);
+    let k = m + encode_number::<2>(&mut out[m..], a as u64);
+    let j = k + encode_number::<2>(&mut out[k..], b as u64);
     let i = encode_byte(&mut out[j..], exponent);
     j + i
 }
@@ -89,6 +89,6 @@ pub fn encode_last(out: &mut [u8], a: usize) -> usize
     ensures { Wrote (99 ∷ bytes 2 a) out.old out.new result }
 {
     let n = encode_byte(out, LAST);
-    let m = encode_two(&mut out[n..], a as u64);
+    let m = encode_number::<2>(&mut out[n..], a as u64);
     n + m
 }

@@ -5,6 +5,7 @@ use native.Mathlib.Omega.{arith}
 use mathlib.Core.Path.{◌≡◌, refl, sym, ap, ap₂, ◌∙◌}
 use mathlib.Core.Bool.{cond}
 use mathlib.Core.List.{List, ◌++◌}
+use Rattle.std.specs.Prelude.{Result, Ok, Err}
 use lib.Dec.{eqb}
 use lib.ListN.{length, drop}
 use Rattle.rules.specs.Data.{Row}
@@ -14,74 +15,87 @@ use Rattle.rules.specs.Reading.{longest, Said, says, read, Answered}
 use Rattle.rules.proofs.Reading.Outcomes.{accepted_refused}
 use Rattle.rules.proofs.Reading.Reader.{reading_unique, answered_unique}
 use Rattle.statements.specs.Answer.{said}
-use Rattle.statements.specs.Passes.{AtStart, Concluded, is_accepted, is_refused, OnePass}
+use Rattle.statements.specs.Passes.{AtStart, OnePass}
 use Rattle.statements.specs.declared.cursor.Cursor.{Cursor}
 use Rattle.statements.specs.declared.passes.Run.{Run}
-use Rattle.statements.specs.declared.Reading.{Reading}
-use Rattle.statements.specs.declared.Reading.TheVariants.{Accepted, TooLong, ForeignByte, LeftOpen, NoForm, PastLimit, Misplaced, OtherName, TooDeep, EndNotSetOff, EndsEarly, NoRoom}
+use Rattle.statements.specs.declared.outcome.Accepted.{Accepted}
+use Rattle.statements.specs.declared.outcome.Refusal.{Refusal}
+use Rattle.statements.specs.declared.outcome.Refusal.TheVariants.{TooLong, ForeignByte, LeftOpen, NoForm, PastLimit, Misplaced, OtherName, TooDeep, EndNotSetOff, EndsEarly, NoRoom}
+
+abbrev accepted : ℕ → ℕ → Accepted
+accepted p n = record { place = p; length = n }
 
 -- the answer of a code, a place and a length
-abbrev answer : ℕ → ℕ → ℕ → Reading
+abbrev answer : ℕ → ℕ → ℕ → Result Accepted Refusal
 answer c p n =
-    cond (eqb c 0) (Accepted p n) (cond (eqb c 1) TooLong (cond (eqb c 2) (ForeignByte p) (cond (eqb c 3) (LeftOpen p) (cond (eqb c 4) (NoForm p) (cond (eqb c 5) (PastLimit p)
-    (cond (eqb c 6) (Misplaced p) (cond (eqb c 7) (OtherName p) (cond (eqb c 8) (TooDeep p) (cond (eqb c 9) (EndNotSetOff p) (cond (eqb c 10) (EndsEarly p) (NoRoom p n)))))))))))
+    cond (eqb c 0) (Ok (accepted p n)) (Err (cond (eqb c 1) TooLong (cond (eqb c 2) (ForeignByte p) (cond (eqb c 3) (LeftOpen p) (cond (eqb c 4) (NoForm p) (cond (eqb c 5) (PastLimit p)
+    (cond (eqb c 6) (Misplaced p) (cond (eqb c 7) (OtherName p) (cond (eqb c 8) (TooDeep p) (cond (eqb c 9) (EndNotSetOff p) (cond (eqb c 10) (EndsEarly p) (NoRoom (accepted p n)))))))))))))
 
-again : (r : Reading) → answer (said r).code (said r).place (said r).size ≡ r
-again (Accepted p n) = refl
-again TooLong = refl
-again (ForeignByte p) = refl
-again (LeftOpen p) = refl
-again (NoForm p) = refl
-again (PastLimit p) = refl
-again (Misplaced p) = refl
-again (OtherName p) = refl
-again (TooDeep p) = refl
-again (EndNotSetOff p) = refl
-again (EndsEarly p) = refl
-again (NoRoom p n) = refl
+again : (r : Result Accepted Refusal) → answer (said r).code (said r).place (said r).size ≡ r
+again (Ok a) = refl
+again (Err TooLong) = refl
+again (Err (ForeignByte p)) = refl
+again (Err (LeftOpen p)) = refl
+again (Err (NoForm p)) = refl
+again (Err (PastLimit p)) = refl
+again (Err (Misplaced p)) = refl
+again (Err (OtherName p)) = refl
+again (Err (TooDeep p)) = refl
+again (Err (EndNotSetOff p)) = refl
+again (Err (EndsEarly p)) = refl
+again (Err (NoRoom a)) = refl
 
 -- what is said of an answer tells which it is
-pub said_once : {r r' : Reading} → said r ≡ said r' → r ≡ r'
+pub said_once : {r r' : Result Accepted Refusal} → said r ≡ said r' → r ≡ r'
 said_once {r} {r'} e = sym (again r) ∙ ap (λ (s : Said). answer s.code s.place s.size) e ∙ again r'
 
-pub read_once : {label room last last' : List ℕ} {r r' : Reading} → Answered base label room (said r) last → Answered base label room (said r') last' →
+pub read_once : {label room last last' : List ℕ} {r r' : Result Accepted Refusal} → Answered base label room (said r) last → Answered base label room (said r') last' →
     (r ≡ r') × (said r ≡ said r') × (last ≡ last')
 read_once {label} {room} a b = let u = answered_unique base label room a b in (said_once u.0, u.0, u.1)
 
 -- ---- one pass
 
-accepted_length : {i n p m : ℕ} → Accepted i n ≡ Accepted p m → n ≡ m
-accepted_length e = cc
+-- what a pass answers of the label
+abbrev answered : Result Run Refusal → Result Accepted Refusal
+answered (Ok r) = Ok r.accepted
+answered (Err e) = Err e
+
+same_accepted : {a b : Accepted} → ◌≡◌ {A = Result Accepted Refusal} (Ok a) (Ok b) → a ≡ b
+same_accepted e = cc
+
+no_refusal : {a : Accepted} {r : Refusal} → ◌≡◌ {A = Result Accepted Refusal} (Err r) (Ok a) → ⊥
+no_refusal e = let z : ◌≡◌ {A = ℕ} 0 1 = cc in omega arith
 
 -- where the table fits the room, the room after is decided
-record Same (before after after' : List ℕ) (r r' : Reading) : Type 0 where
-  pub answer : r ≡ r'
-  pub room : (p n : ℕ) → r ≡ Accepted p n → n ≤ length before → after ≡ after'
+record Same (before after after' : List ℕ) (r r' : Result Run Refusal) : Type 0 where
+  pub answer : answered r ≡ answered r'
+  pub room : (a : Accepted) → answered r ≡ Ok a → a.length ≤ length before → after ≡ after'
 
-concluded_once : {label before after after' : List ℕ} {r r' : Reading} → length label ≤ longest → Concluded label before after r → Concluded label before after' r' → Same before after after' r r'
-concluded_once {before = before} s (is_accepted {rows} {i} {n} j c h) (is_accepted {rows = rows'} {i = i'} {n = n'} j' c' h') =
-    let u = reading_unique base (read s j) (read s j') in
-    let a : rows ≡ rows' = cc in
-    let b : i ≡ i' = cc in
-    let d : n ≡ n' = c ∙ ap (λ (l : List Row). length (table l)) a ∙ sym c' in
+passed_once : (label before : List ℕ) {after after' : List ℕ} → length label ≤ longest → (r r' : Result Run Refusal) → OnePass label before after r → OnePass label before after' r' → Same before after after' r r'
+passed_once label before s (Ok r) (Ok r') x y =
+    let a = r.accepted in
+    let a' = r'.accepted in
+    let u = reading_unique base (read s x.judged) (read s y.judged) in
+    let q : x.rows ≡ y.rows = cc in
+    let p : a.place ≡ a'.place = cc in
+    let n : a.length ≡ a'.length = x.count ∙ ap (λ (l : List Row). length (table l)) q ∙ sym y.count in
     record {
-      answer = ap₂ Accepted b d;
-      room = λ p m e f.
-          let g : n ≤ length before = omega (arith, accepted_length e) in
-          h g ∙ ap₂ (λ (l : List Row) (k : ℕ). table l ++ drop k before) a d ∙ sym (h' (omega arith));
+      answer = ap₂ (λ (i j : ℕ). Ok (accepted i j)) p n;
+      room = λ b e i.
+          let g : a.length ≤ length before = omega (arith, ap (λ (z : Accepted). z.length) (same_accepted e)) in
+          x.bytes g ∙ ap₂ (λ (l : List Row) (k : ℕ). table l ++ drop k before) q n ∙ sym (y.bytes (omega arith));
     }
-concluded_once s (is_accepted j c h) (is_refused j' k q) = absurd (accepted_refused (reading_unique base (read s j) (read s j')))
-concluded_once s (is_refused j k q) (is_accepted j' c h) = absurd (accepted_refused (reading_unique base (read s j') (read s j)))
-concluded_once s (is_refused {c} {i} j k q) (is_refused {c = c'} {i = i'} j' k' q') =
-    let u = reading_unique base (read s j) (read s j') in
-    let a : c ≡ c' = cc in
-    let b : i ≡ i' = cc in
-    let z = said_once (q ∙ ap₂ (λ (x y : ℕ). says x y 0) a b ∙ sym q') in
-    record { answer = z; room = λ p n e f. absurd (omega (arith, k, sym (ap (λ (s : Said). s.code) q) ∙ ap (λ (r : Reading). (said r).code) e)) }
+passed_once label before s (Ok r) (Err e) x y = absurd (accepted_refused (reading_unique base (read s x.judged) (read s y.judged)))
+passed_once label before s (Err e) (Ok r) x y = absurd (accepted_refused (reading_unique base (read s y.judged) (read s x.judged)))
+passed_once label before s (Err e) (Err e') x y =
+    let u = reading_unique base (read s x.judged) (read s y.judged) in
+    let a : x.code ≡ y.code = cc in
+    let b : x.place ≡ y.place = cc in
+    record { answer = said_once (x.is ∙ ap₂ (λ (i j : ℕ). says i j 0) a b ∙ sym y.is); room = λ p q f. absurd (no_refusal q) }
 
-pub pass_once : {label before after after' : List ℕ} {r r' : Run} → length label ≤ longest → OnePass label before after r → OnePass label before after' r' →
-    (r.reading ≡ r'.reading) × ((p n : ℕ) → r.reading ≡ Accepted p n → n ≤ length before → after ≡ after')
-pass_once s a b = let u = concluded_once s a.concluded b.concluded in (u.answer, u.room)
+pub pass_once : (label before : List ℕ) {after after' : List ℕ} → length label ≤ longest → (r r' : Result Run Refusal) → OnePass label before after r → OnePass label before after' r' →
+    (answered r ≡ answered r') × ((a : Accepted) → answered r ≡ Ok a → a.length ≤ length before → after ≡ after')
+pass_once label before s r r' a b = let u = passed_once label before s r r' a b in (u.answer, u.room)
 
 pub start_once : {c c' : Cursor} → AtStart c → AtStart c' → c ≡ c'
 start_once {c} {c'} a b =

@@ -7,7 +7,8 @@ use lib.Dec.{leb}
 use borrow.Author.Rules.{rules}
 use Rattle.rows.specs.Rows.{deepest}
 use Rattle.blocks.specs.Stack.{Block, block, many, top_of, start_of, end_of, blocks_in}
-use Rattle.blocks.specs.declared.Top as top
+use Rattle.std.specs.Prelude.{Option, None, Some}
+use Rattle.rows.specs.declared.Kind as kind
 use Rattle.blocks.proofs.Opened.{counted, nothing_open}
 use Rattle.steps.specs.States.{named, closing}
 use Rattle.steps.specs.declared.State.{State}
@@ -25,7 +26,7 @@ pub some_closing : (s e k : List ℕ) (d x y : ℕ) (t : State) → x ≡ start_
     named t x y ≡ closing (blocks_in s e k d) t
 some_closing s e k d x y t p q h = by_name (blocks_in s e k d) x y t p q (λ z. h (omega (arith, counted s e k d)))
 
-pub seen : (s e k : List ℕ) (d : ℕ) (t : State) (u : top.Top) → u ≡ top_of (blocks_in s e k d) →
+pub seen : (s e k : List ℕ) (d : ℕ) (t : State) (u : Option kind.Kind) → u ≡ top_of (blocks_in s e k d) →
     record { awaited = t.awaited; nest = t.nest; kind = t.kind; op = t.op; top = u; full = leb deepest d; from = t.from; upto = t.upto } ≡ seeing (blocks_in s e k d) t
 seen s e k d t u g = rw (g, counted s e k d)
 

@@ -9,6 +9,7 @@ use Prim.Native.Nat.{ℕ, ◌+◌, ◌<◌, ◌≤◌}
 use native.Mathlib.Omega.{arith}
 use lib.ListN.{length, take, drop, length-append, length-drop, take-append-drop}
 use lib.Seq.{take_at, take-take}
+use Rattle.std.specs.Prelude.{Option, None, Some, Result, Ok, Err}
 use Rattle.rules.specs.Data as rule
 use Rattle.rules.specs.Modes.{base}
 use Rattle.rules.specs.Grammar.{strict}
@@ -22,24 +23,26 @@ use Rattle.rules.proofs.Machine.Labels.{behind_rows, Stop, at_the_end, at_a_faul
 use Rattle.rules.proofs.Tables.Walk.{table_append}
 use Rattle.rules.proofs.Reading.Reader.{gather, judged, onto_nil, onto_onto}
 use Rattle.classes.proofs.Parts.{part_length}
-use Rattle.elements.specs.Next.{placed_of, place_of, NextAt, an_element, a_fault, no_more}
+use Rattle.elements.specs.Faults.{code_of}
+use Rattle.elements.specs.Next.{placed_of, place_of, NextAt, ElementNext, FaultNext}
 use Rattle.elements.specs.declared.Element.{Element}
 use Rattle.elements.specs.declared.Element.TheVariants.{Name}
+use Rattle.elements.specs.declared.Broken.{Broken}
 use Rattle.elements.specs.declared.Found.{Found}
-use Rattle.elements.specs.declared.Found.TheVariants.{Next, Fault, Finish}
+use Rattle.rows.specs.declared.Row.{Row}
 use Rattle.rows.specs.declared.Row.TheVariants as rows
-use Rattle.statements.specs.Passes.{Refusal, Added, Sofar, AtStart, Reached, Concluded, is_accepted, is_refused, OnePass}
+use Rattle.statements.specs.Passes.{Refuses, Added, Sofar, AtStart, Reached, Passed, Refused}
 use Rattle.steps.specs.States.{state_of}
-use Rattle.steps.specs.Steps.{Given, given, rows_of, Does}
+use Rattle.steps.specs.Steps.{Given, number_of, row_given, rows_of, Does}
 use Rattle.blocks.specs.Stack.{Block, blocks_of, opens_of}
 use Rattle.blocks.proofs.Opened.{nothing_open}
 use Rattle.statements.specs.Opened.{Sound}
-use Rattle.statements.specs.declared.Reading.{Reading}
-use Rattle.statements.specs.declared.Reading.TheVariants.{Accepted, EndsEarly}
+use Rattle.statements.specs.declared.outcome.Refusal as answers
+use Rattle.statements.specs.declared.outcome.Refusal.TheVariants.{EndsEarly}
 use Rattle.statements.specs.declared.cursor.Cursor.{Cursor}
 use Rattle.statements.specs.declared.passes.Run.{Run}
 use Rattle.steps.specs.declared.Awaited.TheVariants as await
-use Rattle.steps.specs.declared.Gives.TheVariants as gives
+use Rattle.steps.specs.declared.Misfit.{Misfit}
 use Rattle.steps.specs.declared.State.{State}
 use Rattle.steps.specs.declared.Stepped.{Stepped}
 use Rattle.blocks.specs.declared.Blocks.{Blocks}
@@ -66,19 +69,22 @@ ends_at h (found.ends a) k = rw (← k) (now (at_no_more h a))
 -- ---- the same of what `next` found
 
 module _ {label : List ℕ} {q : machine.State} {o : rule.Opens} {at : ℕ} (h : is_end q ≡ false) where
-  one_turn : {e : Element} {to : ℕ} {q' : machine.State} {o' : rule.Opens} {rs : List rule.Row} {z : Outcome} → NextAt label at (Next e to) →
+  one_turn : {e : Element} {to : ℕ} {q' : machine.State} {o' : rule.Opens} {rs : List rule.Row} {z : Outcome} → ElementNext label at (e, to) →
       machine.step base strict q o (placed_of label e) ≡ machine.goes q' o' rs → Goes base q' o' to (drop to label) z → Goes base q o at (drop at label) (behind_rows rs z)
-  one_turn {to = to} {q' = q'} {o' = o'} {rs = rs} (an_element {at = p} a b c n y k) e g =
-      steps_on h n (subst (λ (u : rule.Placed). machine.step base strict q o u ≡ machine.goes q' o' rs) y e) (omega (arith, part_length label at p (omega arith), part_length label p to c)) g
+  one_turn {to = to} {q' = q'} {o' = o'} {rs = rs} x e g =
+      steps_on h x.is (subst (λ (u : rule.Placed). machine.step base strict q o u ≡ machine.goes q' o' rs) x.placed e)
+      (omega (arith, x.behind, x.onward, part_length label at x.at (omega (arith, x.onward, x.within)), part_length label x.at to x.within)) g
 
-  refuse_turn : {e : Element} {to c : ℕ} → NextAt label at (Next e to) → machine.step base strict q o (placed_of label e) ≡ machine.refuses c → Goes base q o at (drop at label) (refused c (place_of e))
-  refuse_turn {c = code} (an_element {at = p} a b c n y k) e = halts_at h n (subst (λ (u : rule.Placed). machine.step base strict q o u ≡ machine.refuses code) y e) (omega (arith, k, part_length label at p (omega arith)))
+  refuse_turn : {e : Element} {to c : ℕ} → ElementNext label at (e, to) → machine.step base strict q o (placed_of label e) ≡ machine.refuses c → Goes base q o at (drop at label) (refused c (place_of e))
+  refuse_turn {c = code} x e = halts_at h x.is (subst (λ (u : rule.Placed). machine.step base strict q o u ≡ machine.refuses code) x.placed e)
+      (omega (arith, x.behind, x.place, part_length label at x.at (omega (arith, x.onward, x.within))))
 
-  fault_turn : {c p : ℕ} → NextAt label at (Fault c p) → Goes base q o at (drop at label) (refused c p)
-  fault_turn {p = p} (a_fault a b n) = faults_at h n (omega (arith, part_length label at p (omega arith)))
+  fault_turn : {f : Broken} → FaultNext label at f → Goes base q o at (drop at label) (refused (code_of f.0) f.1)
+  fault_turn {f} x = faults_at h x.is (omega (arith, x.behind, part_length label at f.1 (omega (arith, x.within))))
 
-  end_turn : {p : ℕ} → at ≤ length label → NextAt label at (Finish p) → Goes base q o at (drop at label) (refused 10 p)
-  end_turn k (no_more n) = ends_at h n (simp length-drop (omega arith))
+end_turn : (label : List ℕ) {q : machine.State} {o : rule.Opens} (at : ℕ) → is_end q ≡ false → at ≤ length label → found.NextIs base (drop at label) found.none_left →
+    Goes base q o at (drop at label) (refused 10 (length label))
+end_turn label at h k n = ends_at h n (simp length-drop (omega arith))
 
 -- ---- the invariant
 
@@ -171,24 +177,18 @@ noted_here last s h e q = rw q (noted s (leb-true _ _ (and_left _ _ h)) e)
 pub noted_before : {label before out : List ℕ} {t : State} {b : Blocks} {at n : ℕ} {c full : Cursor} → Noting label before out t b at n c → full ≡ c → Noting label before out t b at n full
 noted_before s q = rw q s
 
-found_at : {label : List ℕ} {at : ℕ} {f v : Found} → NextAt label at f → f ≡ v → NextAt label at v
-found_at {label} {at} x h = subst (λ (y : Found). NextAt label at y) h x
-
-pub ahead : {label : List ℕ} {at to : ℕ} {e : Element} {f : Found} → NextAt label at f → f ≡ Next e to → (at < to) × (to ≤ length label)
-ahead x h = go (found_at x h)
-  where
-    go : {label : List ℕ} {at to : ℕ} {e : Element} → NextAt label at (Next e to) → (at < to) × (to ≤ length label)
-    go (an_element a b c n y k) = (omega arith, c)
+pub ahead : {label : List ℕ} {at to : ℕ} {e : Element} → ElementNext label at (e, to) → (at < to) × (to ≤ length label)
+ahead x = (omega (arith, x.behind, x.onward), x.within)
 
 abbrev upto_of : rule.Placed → ℕ
 upto_of (rule.◌on◌ x p) = p.upto
 
 -- a name lies within what two bytes can say
-pub name_places : {label : List ℕ} {at to x y : ℕ} {e : Element} {f : Found} → NextAt label at f → f ≡ Next e to → e ≡ Name x y → length label ≤ longest → (x < 65536) × (y < 65536)
-name_places {label} {at} {to} {x} {y} n h k s = go (subst (λ (v : Element). NextAt label at (Next v to)) k (found_at n h))
+pub name_places : {label : List ℕ} {at to x y : ℕ} {e : Element} → ElementNext label at (e, to) → e ≡ Name x y → length label ≤ longest → (x < 65536) × (y < 65536)
+name_places {label} {at} {to} {x} {y} n k s = go (subst (λ (v : Element). ElementNext label at (v, to)) k n)
   where
-    go : NextAt label at (Next (Name x y) to) → (x < 65536) × (y < 65536)
-    go (an_element {at = p} a b c n z q) = (omega arith, omega (arith, ap upto_of z, part_length label at p (omega arith), part_length label p to c))
+    go : ElementNext label at (Name x y, to) → (x < 65536) × (y < 65536)
+    go n = (omega (arith, n.place, n.onward, n.within), omega (arith, n.behind, n.onward, n.within, ap upto_of n.placed, part_length label at n.at (omega (arith, n.onward, n.within)), part_length label n.at to n.within))
 
 -- the room with what one element gives
 stores : {label before out out' : List ℕ} {t : State} {b : Blocks} {at n n' : ℕ} (g : Given) (s : Running label before out t b at n) → Added (table (rows_of g)) n out out' n' →
@@ -204,11 +204,12 @@ still_reached {out = out} {out'} {n = n} {c = c} s h a =
 
 module _ {label before out out' : List ℕ} {t : State} {b : Blocks} {at n n' to : ℕ} {e : Element} where
   -- one element more
-  goes_on : (g : Given) {t' : State} {b' : Blocks} (s : Running label before out t b at n) → NextAt label at (Next e to) → (at < to) × (to ≤ length label) →
+  goes_on : (g : Given) {t' : State} {b' : Blocks} (s : Running label before out t b at n) → ElementNext label at (e, to) →
       machine.step base strict (state_of label t) (opens_of label (blocks_of b)) (placed_of label e) ≡ machine.goes (state_of label t') (opens_of label (blocks_of b')) (rows_of g) →
       Added (table (rows_of g)) n out out' n' → Sofar label (s.rs ++ rows_of g) t' b' to n'
-  goes_on g s x l m a =
+  goes_on g s x m a =
       let f = s.sofar in
+      let l = ahead x in
       record {
         on = λ z j. subst (λ (y : Outcome). Goes base machine.at_statement rule.outside 0 label y) (onto_onto s.rs (rows_of g) z) (f.on (behind_rows (rows_of g) z) (one_turn s.going x m j));
         within = l.1;
@@ -216,12 +217,12 @@ module _ {label before out out' : List ℕ} {t : State} {b : Blocks} {at n n' to
         small = omega (arith, a.next, a.small, f.small, l.0);
       }
 
-  pub again : {g : Given} {f : Found} {t' : State} {b' : Blocks} {c : Cursor} → Noting label before out t b at n c → NextAt label at f → f ≡ Next e to → Moves label t b e g t' b' →
+  pub again : {g : Given} {t' : State} {b' : Blocks} {c : Cursor} → Noting label before out t b at n c → ElementNext label at (e, to) → Moves label t b e g t' b' →
       Added (table (rows_of g)) n out out' n' → Noting label before out' t' b' to n' c
-  again {g} s x h m a = record {
+  again {g} s x m a = record {
     running = record {
       rs = s.running.rs ++ rows_of g;
-      sofar = goes_on g s.running (found_at x h) (ahead x h) m.moves a;
+      sofar = goes_on g s.running x m.moves a;
       sound = m.sound;
       going = m.going;
       long = a.long ∙ s.running.long;
@@ -236,27 +237,43 @@ module _ {label before out out' : List ℕ} {t : State} {b : Blocks} {at n n' to
 judge : {label : List ℕ} {z : Outcome} → Goes base machine.at_statement rule.outside 0 label z → Judged base label z
 judge g = judged base (gather base g)
 
-refuses : {label before after : List ℕ} {c p : ℕ} {r : Reading} → Goes base machine.at_statement rule.outside 0 label (refused c p) → Refusal c p r → Concluded label before after r
-refuses g d = let j = judge g in is_refused j (judged_code j).0 (d.is (judged_code j).0 (judged_code j).1)
+refuses : {label out : List ℕ} {c p : ℕ} {r : answers.Refusal} {full : Cursor} → Goes base machine.at_statement rule.outside 0 label (refused c p) → Refuses c p r → Reached label out full →
+    Refused label out r
+refuses g d h = let j = judge g in let k = judged_code j in record { code = _; place = _; judged = j; from = k.0; is = d.is k.0 k.1; full = _; reached = h }
 
-module _ {label before out : List ℕ} {t : State} {b : Blocks} {at n : ℕ} {f : Found} where
-  pub early : {p : ℕ} {out' : List ℕ} → Running label before out t b at n → NextAt label at f → f ≡ Finish p → Concluded label before out' (EndsEarly p)
-  early {p} s x h = refuses (s.sofar.on (refused 10 p) (end_turn s.going s.sofar.within (found_at x h))) (record { is = λ y z. refl })
+-- where no element comes, nothing is left but a gap
+pub none_there : (label : List ℕ) (at : ℕ) (o : Option Found) → NextAt label at (Ok o) → ((f : Found) → o ≡ Some f → ⊥) → found.NextIs base (drop at label) found.none_left
+none_there label at None x h = x
+none_there label at (Some f) x h = absurd (h f refl)
 
-  pub faulty : {c p : ℕ} {r : Reading} {out' : List ℕ} → Running label before out t b at n → NextAt label at f → f ≡ Fault c p → Refusal c p r → Concluded label before out' r
-  faulty {c} {p} s x h d = refuses (s.sofar.on (refused c p) (fault_turn s.going (found_at x h))) d
+module _ {label before out : List ℕ} {t : State} {b : Blocks} {at n : ℕ} {full : Cursor} where
+  pub early : Noting label before out t b at n full → found.NextIs base (drop at label) found.none_left → Refused label out (EndsEarly (length label))
+  early held x =
+      let s = held.running in
+      refuses (s.sofar.on (refused 10 (length label)) (end_turn label at s.going s.sofar.within x)) (record { is = λ y z. refl }) held.reached
 
-  pub refused_there : {e : Element} {to p : ℕ} {w : Stepped} {r : Reading} {out' : List ℕ} → Running label before out t b at n → NextAt label at f → f ≡ Next e to →
-      Does label t (state_of label t) e w → w.gives ≡ gives.Stop → p ≡ place_of e → Refusal w.code p r → Concluded label before out' r
-  refused_there {e} {w = w} s x h m k i d =
-      refuses (rw i (s.sofar.on (refused w.code (place_of e)) (refuse_turn s.going (found_at x h) (turn_stop m s.sound k)))) d
+  pub faulty : {f : Broken} {r : answers.Refusal} → Noting label before out t b at n full → FaultNext label at f → Refuses (code_of f.0) f.1 r → Refused label out r
+  faulty {f} held x d =
+      let s = held.running in
+      refuses (s.sofar.on (refused (code_of f.0) f.1) (fault_turn s.going x)) d held.reached
 
-  pub accepted_there : {e : Element} {to a n' : ℕ} {w : Stepped} {out' : List ℕ} → Running label before out t b at n → NextAt label at f → f ≡ Next e to →
-      Does label t (state_of label t) e w → w.gives ≡ gives.One → w.row ≡ rows.Last a → Added (table (rows_of (given w))) n out out' n' → Concluded label before out' (Accepted to n')
-  accepted_there {e} {to} {n' = n'} {w = w} s x h m g k d =
-      let y : Sofar label (s.rs ++ rows_of (given w)) w.state b to n' = goes_on (given w) s (found_at x h) (ahead x h) (turn_last m s.sound g k) d in
-      is_accepted (judge (rw (append-nil (s.rs ++ rows_of (given w))) at (y.on (accepted [] to) (now (at_the_end (last_state m g k)))))) y.count (stores (given w) s d)
+  pub refused_there : {e : Element} {to p : ℕ} {w : Result Stepped Misfit} {m : Misfit} {r : answers.Refusal} → Noting label before out t b at n full → ElementNext label at (e, to) →
+      Does label t (state_of label t) e w → w ≡ Err m → p ≡ place_of e → Refuses (number_of m) p r → Refused label out r
+  refused_there {e} {m} held x y k i d =
+      let s = held.running in
+      refuses (rw i (s.sofar.on (refused (number_of m) (place_of e)) (refuse_turn s.going x (turn_stop y s.sound k)))) d held.reached
 
--- what a pass hands back
-pub hands_back : {label before out : List ℕ} {x : Reading} {c : Cursor} {r : Run} → Concluded label before out x → Reached label out c → (r.reading ≡ x) × (r.full ≡ c) → OnePass label before out r
-hands_back p s e = record { concluded = rw e.0 p; full = rw e.1 s }
+module _ {label before out : List ℕ} {t : State} {b : Blocks} {at n : ℕ} where
+  pub accepted_there : {e : Element} {to a n' : ℕ} {w : Stepped} {v : Row} {out' : List ℕ} {r : Run} → Noting label before out t b at n r.full → ElementNext label at (e, to) →
+      Does label t (state_of label t) e (Ok w) → w.row ≡ Some v → v ≡ rows.Last a → Added (table (rows_of (row_given w.row))) n out out' n' → r.accepted ≡ record { place = to; length = n' } →
+      Passed label before out' r
+  accepted_there {e} {to} {n' = n'} {w = w} held x m g k d q =
+      let s = held.running in
+      let y : Sofar label (s.rs ++ rows_of (row_given w.row)) w.state b to n' = goes_on (row_given w.row) s x (turn_last m s.sound g k) d in
+      record {
+        rows = s.rs ++ rows_of (row_given w.row);
+        judged = rw q (judge (rw (append-nil (s.rs ++ rows_of (row_given w.row))) at (y.on (accepted [] to) (now (at_the_end (last_state m g k))))));
+        count = rw q y.count;
+        bytes = rw q (stores (row_given w.row) s d);
+        full = still_reached held.reached held.behind d;
+      }

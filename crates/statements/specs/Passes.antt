@@ -1,5 +1,5 @@
 -- What one pass over the label gives: the rules' judgement, the table's length, and its bytes where they fit; and where the room was full.
-use Rattle.std.specs.Prelude.{ℕ, ◌+◌, ◌*◌, ◌≤◌, ◌≡◌, false, List, ◌++◌, length, take, drop}
+use Rattle.std.specs.Prelude.{ℕ, ◌+◌, ◌*◌, ◌≤◌, ◌≡◌, false, List, ◌++◌, length, take, drop, Result, MatchResult}
 use Rattle.rules.specs.Data as rule
 use Rattle.rules.specs.Modes.{base}
 use Rattle.rules.specs.Table.{table}
@@ -12,16 +12,15 @@ use Rattle.steps.specs.States.{state_of, first_state}
 use Rattle.steps.specs.declared.State.{State}
 use Rattle.blocks.specs.Stack.{blocks_of, no_blocks, opens_of}
 use Rattle.blocks.specs.declared.Blocks.{Blocks}
-use Rattle.statements.specs.Answer.{said}
+use Rattle.statements.specs.Answer.{refusal_said}
 use Rattle.statements.specs.Opened.{Sound}
-use Rattle.statements.specs.declared.Reading.{Reading}
-use Rattle.statements.specs.declared.Reading.TheVariants.{Accepted}
+use Rattle.statements.specs.declared.outcome.Refusal as answers
 use Rattle.statements.specs.declared.cursor.Cursor.{Cursor}
 use Rattle.statements.specs.declared.passes.Run.{Run}
 
--- the answer that says a refusal, for the codes that a label can be refused with
-pub record Refusal (c p : ℕ) (r : Reading) : Type 0 where
-  pub is : 2 ≤ c → c ≤ 10 → said r ≡ says c p 0
+-- what says a refusal, for the codes that a label can be refused with
+pub record Refuses (c p : ℕ) (r : answers.Refusal) : Type 0 where
+  pub is : 2 ≤ c → c ≤ 10 → refusal_said r ≡ says c p 0
 
 -- w at n, where the room holds it; what is before n stays in any case
 pub record Added (w : List ℕ) (n : ℕ) (before after : List ℕ) (r : ℕ) : Type 0 where
@@ -56,14 +55,24 @@ pub record Reached (label room : List ℕ) (c : Cursor) : Type 0 where
   pub fits : c.n ≤ length room
   pub bytes : take c.n room ≡ table rs
 
--- a pass's answer: the rows' table where it fits the room, or a refusal
-pub data Concluded (label before after : List ℕ) : Reading → Type 0 where
-  is_accepted : {rows : List rule.Row} {i n : ℕ} → Judged base label (accepted rows i) → n ≡ length (table rows) →
-      (n ≤ length before → after ≡ table rows ++ drop n before) → Concluded label before after (Accepted i n)
-  is_refused : {c i : ℕ} {r : Reading} → Judged base label (refused c i) → 2 ≤ c → said r ≡ says c i 0 →
-      Concluded label before after r
-
--- a pass: its answer, and a place from which a reading may go on in the room as it was left
-pub record OnePass (label before after : List ℕ) (r : Run) : Type 0 where
-  pub concluded : Concluded label before after r.reading
+-- a label passed to END: the rows' table where it fits the room, and a place from which a reading may go on in the room as it was left
+pub record Passed (label before after : List ℕ) (r : Run) : Type 0 where
+  pub rows : List rule.Row
+  pub judged : Judged base label (accepted rows r.accepted.place)
+  pub count : r.accepted.length ≡ length (table rows)
+  pub bytes : r.accepted.length ≤ length before → after ≡ table rows ++ drop r.accepted.length before
   pub full : Reached label after r.full
+
+-- a label that is refused at its first fault, and a place from which a reading may go on in the room as it was left
+pub record Refused (label after : List ℕ) (r : answers.Refusal) : Type 0 where
+  pub code : ℕ
+  pub place : ℕ
+  pub judged : Judged base label (refused code place)
+  pub from : 2 ≤ code
+  pub is : refusal_said r ≡ says code place 0
+  pub full : Cursor
+  pub reached : Reached label after full
+
+-- what one pass answers
+abbrev pub OnePass : List ℕ → List ℕ → List ℕ → Result Run answers.Refusal → Type 0
+OnePass label before after r = MatchResult r (Passed label before after) (Refused label after)

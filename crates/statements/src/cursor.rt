@@ -2,7 +2,7 @@
 ghost use Rattle.std.specs.Prelude.{◌≡◌};
 ghost use Rattle.statements.specs.Passes.{AtStart};
 
-use crate::stack::first_state;
+use crate::stack::FIRST_STATE;
 use blocks::{Blocks, no_blocks};
 use steps::State;
 
@@ -30,5 +30,5 @@ pub fn standing(state: State, blocks: Blocks, at: usize, n: usize) -> Cursor
 pub fn start() -> Cursor
     ensures { AtStart result }
 {
-    standing(first_state(), no_blocks(), 0, 0)
+    standing(FIRST_STATE, no_blocks(), 0, 0)
 }

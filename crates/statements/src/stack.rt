@@ -2,10 +2,10 @@
 ghost use Rattle.std.specs.Prelude.{◌≡◌, ◌≤◌};
 ghost use Rattle.rows.specs.Rows.{deepest};
 ghost use Rattle.blocks.specs.Stack.{blocks_of};
-ghost use Rattle.steps.specs.States.{closing, first_state};
+ghost use Rattle.steps.specs.States.{closing};
 ghost use Rattle.statements.specs.Opened.{seeing};
 
-use blocks::{Blocks, Top, name_end, name_start, top_of};
+use blocks::{Blocks, name_of, top_of};
 use rows::{DEEPEST, Kind, Nest, Op};
 use steps::{Awaited, State};
 
@@ -14,21 +14,10 @@ pub fn seen(t: State, b: Blocks) -> State
     requires { b.depth ≤ deepest }
     ensures { result ≡ seeing (blocks_of b) t }
 {
-    let awaited = t.awaited;
-    let nest = t.nest;
-    let kind = t.kind;
-    let op = t.op;
-    let top = top_of(b);
-    let d = b.depth;
     State {
-        awaited,
-        nest,
-        kind,
-        op,
-        top,
-        full: DEEPEST <= d,
-        from: t.from,
-        upto: t.upto,
+        top: top_of(b),
+        full: DEEPEST <= b.depth,
+        ..t
     }
 }
 
@@ -37,27 +26,21 @@ pub fn with_name(t: State, b: Blocks) -> State
     requires { b.depth ≤ deepest }
     ensures { result ≡ closing (blocks_of b) t }
 {
-    let d = b.depth;
-    if d == 0 {
+    if b.depth == 0 {
         return t;
     }
-    let mut r = t;
-    r.from = name_start(b);
-    r.upto = name_end(b);
-    r
+    let (from, upto) = name_of(b);
+    State { from, upto, ..t }
 }
 
-pub fn first_state() -> State
-    ensures { result ≡ first_state }
-{
-    State {
-        awaited: Awaited::Statement,
-        nest: Nest::Alone,
-        kind: Kind::Object,
-        op: Op::First,
-        top: Top::Outside,
-        full: false,
-        from: 0,
-        upto: 0,
-    }
-}
+// The state that a reading begins with
+pub const FIRST_STATE: State = State {
+    awaited: Awaited::Statement,
+    nest: Nest::Alone,
+    kind: Kind::Object,
+    op: Op::First,
+    top: None,
+    full: false,
+    from: 0,
+    upto: 0,
+};

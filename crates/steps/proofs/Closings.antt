@@ -5,6 +5,7 @@ use mathlib.Core.Path.{◌≡◌, refl, sym, ap, ◌∙◌}
 use mathlib.Core.List.{List, map}
 use borrow.Author.Rules.{rules}
 use lib.ListN.{length}
+use Rattle.std.specs.Prelude.{Result, Err}
 use Rattle.rules.proofs.Machine.Statements as machine
 use Rattle.rules.specs.Bytes.{fold}
 use Rattle.rules.specs.Grammar.{strict}
@@ -12,10 +13,12 @@ use Rattle.rules.specs.Values.{same}
 use Rattle.rules.proofs.Tables.Tests.{same_true, true_same}
 use Rattle.classes.specs.Places.{part, name_at}
 use Rattle.steps.specs.States.{awaiting}
-use Rattle.steps.specs.Steps.{nothing, stop, giving, Does}
+use Rattle.steps.specs.Steps.{nothing, giving, Does}
 use Rattle.elements.specs.declared.Element.{Element}
 use Rattle.elements.specs.declared.Element.TheVariants.{Name}
 use Rattle.steps.specs.declared.Awaited.TheVariants as await
+use Rattle.steps.specs.declared.Misfit.TheVariants as misfits
+use Rattle.steps.specs.declared.Misfit.{Misfit}
 use Rattle.steps.specs.declared.State.{State}
 use Rattle.steps.specs.declared.Stepped.{Stepped}
 use Rattle.steps.proofs.Ways.{known, halts_known, no_name, within_limit, past_limit}
@@ -32,7 +35,7 @@ two_names label u w a b x y p q h z =
     let e : map fold u ≡ map fold w = named_by label u a b p ∙ z ∙ sym (named_by label w x y q) in
     true≢false (sym (true_same (map fold u)) ∙ ap (same (map fold u)) e ∙ h)
 
-module _ (x y : ℕ) {label : List ℕ} {t : State} {e : Element} {r : Stepped} {a b : ℕ} {u w : List ℕ} {f : Bool} where
+module _ (x y : ℕ) {label : List ℕ} {t : State} {e : Element} {r : Result Stepped Misfit} {a b : ℕ} {u w : List ℕ} {f : Bool} where
   pub closes_same : {s : State} → e ≡ Name a b → (u ≡ part label a b) × (length u ≤ length label) → (w ≡ part label x y) × (length w ≤ length label) → f ≡ same (map fold u) (map fold w) → f ≡ true →
       r ≡ giving s nothing → s ≡ awaiting t await.Statement → Does label t (machine.at_closed (name_at label x y)) e r
   closes_same k p q d h z i =
@@ -40,9 +43,9 @@ module _ (x y : ℕ) {label : List ℕ} {t : State} {e : Element} {r : Stepped} 
       (λ bs v. ap (machine.judge strict) (sym (within_limit (machine.name_discrete (name_at label a b) (name_at label x y)) _ _ (one_name label u w a b x y p.0 q.0 (sym d ∙ h)))))
 
   pub closes_other : e ≡ Name a b → (u ≡ part label a b) × (length u ≤ length label) → (w ≡ part label x y) × (length w ≤ length label) → f ≡ same (map fold u) (map fold w) → f ≡ false →
-      r ≡ giving t (stop 7) → Does label t (machine.at_closed (name_at label x y)) e r
+      r ≡ Err misfits.OtherName → Does label t (machine.at_closed (name_at label x y)) e r
   closes_other s p q d h g =
-      halts_known s g
+      halts_known misfits.OtherName s g
       (λ bs v. ap (machine.judge strict) (sym (past_limit (machine.name_discrete (name_at label a b) (name_at label x y)) _ _ (two_names label u w a b x y p.0 q.0 (sym d ∙ h)))))
 
 pub ruleset closings = (closes_same, closes_other, no_name, rules)

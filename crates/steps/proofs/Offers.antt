@@ -2,10 +2,10 @@
 use Prim.Native.Nat.{ℕ}
 use native.Mathlib.Omega.{arith}
 use mathlib.Core.Path.{◌≡◌, refl, sym, ap, ◌∙◌}
-use mathlib.Core.Bool.{Bool, true, cond}
+use mathlib.Core.Bool.{Bool, true, false, true≢false, cond}
 use mathlib.Core.List.{List, [], ◌∷◌}
 use lib.Dec.{eqb, ltb}
-use borrow.Author.Tests.{eq-eqb, ne_eqb, ltb-true}
+use borrow.Author.Tests.{eqb-true, eq-eqb, ne_eqb, ltb-true}
 use Rattle.rules.specs.Data as rule
 use Rattle.rules.specs.Data.{Fixed-discrete}
 use Rattle.rules.proofs.Machine.Statements.{Entry, ◌⇒◌, Next, never, Offer, find, chosen, dispatch, also, only, a_name, a_whole}
@@ -15,6 +15,7 @@ use Rattle.elements.specs.Next.{placed_of}
 use Rattle.elements.specs.declared.Element.{Element}
 use Rattle.elements.specs.declared.Element.TheVariants.{Name, The, End, Integer, Based, Float, Time, Text, Symbol}
 use Rattle.words.specs.declared.Fixed as code
+use Rattle.words.specs.declared.Fixed.TheVariants as signs
 
 -- the entry of a number
 abbrev pub look : List Entry → ℕ → Next
@@ -121,24 +122,86 @@ NoEnd e = (v : Bool) (a b : ℕ) → e ≡ End v a b → ⊥
 abbrev pub NoWhole : Element → Type 0
 NoWhole e = (m : Bool) (v a b : ℕ) → e ≡ Integer m v a b → ⊥
 
--- ---- sorts without a number
+-- ---- words and signs of the code, told apart
 
--- an element of another sort has no number
-pub no_sign : (e : Element) → NoWord e → 0 ≡ sign_of e
-unfolding sign_of
-no_sign (The k a b) h = absurd (h k a b refl)
-no_sign (Name a b) h = refl
-no_sign (End v a b) h = refl
-no_sign (Integer m v a b) h = refl
-no_sign (Based m v a b) h = refl
-no_sign (Float x a b) h = refl
-no_sign (Time x a b) h = refl
-no_sign (Text a b) h = refl
-no_sign (Symbol a b) h = refl
+abbrev sign_at : ℕ → code.Fixed
+sign_at c =
+    cond (eqb c 1) signs.Object (cond (eqb c 2) signs.EndObject (cond (eqb c 3) signs.Group (cond (eqb c 4) signs.EndGroup (cond (eqb c 5) signs.BeginObject
+    (cond (eqb c 61) signs.Equals (cond (eqb c 44) signs.Comma (cond (eqb c 42) signs.Star (cond (eqb c 47) signs.Slash (cond (eqb c 94) signs.Caret (cond (eqb c 60) signs.Less (cond (eqb c 62) signs.Greater
+    (cond (eqb c 40) signs.OpenParen (cond (eqb c 41) signs.CloseParen (cond (eqb c 123) signs.OpenBrace (cond (eqb c 125) signs.CloseBrace signs.Power)))))))))))))))
 
-pub signed : {e : Element} {k : code.Fixed} {a b : ℕ} → The k a b ≡ e → word_code k ≡ sign_of e
+sign_again : (k : code.Fixed) → sign_at (word_code k) ≡ k
+sign_again signs.Object = refl
+sign_again signs.EndObject = refl
+sign_again signs.Group = refl
+sign_again signs.EndGroup = refl
+sign_again signs.BeginObject = refl
+sign_again signs.Equals = refl
+sign_again signs.Comma = refl
+sign_again signs.Star = refl
+sign_again signs.Slash = refl
+sign_again signs.Caret = refl
+sign_again signs.Less = refl
+sign_again signs.Greater = refl
+sign_again signs.OpenParen = refl
+sign_again signs.CloseParen = refl
+sign_again signs.OpenBrace = refl
+sign_again signs.CloseBrace = refl
+sign_again signs.Power = refl
+
+sign_once : {j k : code.Fixed} → word_code j ≡ word_code k → j ≡ k
+sign_once {j} {k} h = sym (sign_again j) ∙ ap sign_at h ∙ sign_again k
+
+-- the test of a word or sign is the test of the numbers
+pub told : (j k : code.Fixed) (f : Bool) → (f ≡ true → j ≡ k) → (f ≡ false → j ≡ k → ⊥) → f ≡ eqb (word_code j) (word_code k)
+told j k true h i = sym (eq-eqb (word_code j) (word_code k) (ap word_code (h refl)))
+told j k false h i = sym (ne_eqb (word_code j) (word_code k) (λ q. i refl (sign_once q)))
+
+pub signed : {e : Element} {k : code.Fixed} {a b : ℕ} → e ≡ The k a b → sign_of e ≡ word_code k
 unfolding sign_of
 signed q = ap sign_of q
+
+no_number : (k : code.Fixed) → false ≡ eqb 0 (word_code k)
+no_number signs.Object = refl
+no_number signs.EndObject = refl
+no_number signs.Group = refl
+no_number signs.EndGroup = refl
+no_number signs.BeginObject = refl
+no_number signs.Equals = refl
+no_number signs.Comma = refl
+no_number signs.Star = refl
+no_number signs.Slash = refl
+no_number signs.Caret = refl
+no_number signs.Less = refl
+no_number signs.Greater = refl
+no_number signs.OpenParen = refl
+no_number signs.CloseParen = refl
+no_number signs.OpenBrace = refl
+no_number signs.CloseBrace = refl
+no_number signs.Power = refl
+
+-- an element of another sort is none of them
+pub no_sign : (e : Element) (k : code.Fixed) → NoWord e → false ≡ eqb (sign_of e) (word_code k)
+unfolding sign_of
+no_sign (The j a b) k h = absurd (h j a b refl)
+no_sign (Name a b) k h = no_number k
+no_sign (End v a b) k h = no_number k
+no_sign (Integer m v a b) k h = no_number k
+no_sign (Based m v a b) k h = no_number k
+no_sign (Float x a b) k h = no_number k
+no_sign (Time x a b) k h = no_number k
+no_sign (Text a b) k h = no_number k
+no_sign (Symbol a b) k h = no_number k
+
+-- the element has another number
+pub record Isnt (e : Element) (n : ℕ) : Type 0 where
+  pub isnt : sign_of e ≡ n → ⊥
+
+pub is_not : {e : Element} {f : Bool} {n : ℕ} → f ≡ eqb (sign_of e) n → f ≡ false → Isnt e n
+is_not {e} {n = n} h k = record { isnt = λ q. true≢false (sym (eq-eqb (sign_of e) n q) ∙ sym h ∙ k) }
+
+pub is_it : (e : Element) {f : Bool} {n : ℕ} → f ≡ eqb (sign_of e) n → f ≡ true → sign_of e ≡ n
+is_it e {n = n} h k = eqb-true (sign_of e) n (sym h ∙ k)
 
 -- ---- several entries passed over
 
@@ -146,13 +209,13 @@ abbrev pub keys : List Entry → List ℕ
 keys [] = []
 keys (j ⇒ n ∷ l) = code_of j ∷ keys l
 
-abbrev pub Avoids : ℕ → List ℕ → Type 0
-Avoids c [] = Unit {0}
-Avoids c (n ∷ ns) = (c ≡ n → ⊥) × Avoids c ns
+abbrev pub Avoids : Element → List ℕ → Type 0
+Avoids e [] = Unit {0}
+Avoids e (n ∷ ns) = Isnt e n × Avoids e ns
 
-pub pass_all : (l : List Entry) (label : List ℕ) (e : Element) → Avoids (sign_of e) (keys l) → dispatch (only l) (placed_of label e) ≡ never
+pub pass_all : (l : List Entry) (label : List ℕ) (e : Element) → Avoids e (keys l) → dispatch (only l) (placed_of label e) ≡ never
 pass_all [] label e h = none_taken label e
-pass_all (j ⇒ n ∷ l) label e h = pass (only l) label e j n h.0 ∙ pass_all l label e h.1
+pass_all (j ⇒ n ∷ l) label e h = pass (only l) label e j n h.0.isnt ∙ pass_all l label e h.1
 
 -- ---- offers of one sort of element
 

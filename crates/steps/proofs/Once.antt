@@ -3,9 +3,10 @@
 use Prim.Native.Nat.{ℕ, zero, suc}
 use native.Mathlib.Omega.{arith}
 use mathlib.Core.Path.{◌≡◌, refl, sym, ap, ap₂, ◌∙◌, subst}
-use mathlib.Core.Bool.{Bool, true, false}
+use mathlib.Core.Bool.{Bool, true, false, cond}
 use mathlib.Core.List.{List, [], ◌∷◌}
-use lib.Dec.{leb}
+use lib.Dec.{eqb, leb}
+use Rattle.std.specs.Prelude.{Option, None, Some, Result, Ok, Err}
 use Rattle.rules.specs.Data as rule
 use Rattle.rules.proofs.Machine.Statements as machine
 use Rattle.elements.specs.declared.Element.{Element}
@@ -16,11 +17,11 @@ use Rattle.rows.specs.declared.Kind.TheVariants as kinds
 use Rattle.rows.specs.declared.Row.{Row}
 use Rattle.rows.specs.declared.Row.TheVariants as rows
 use Rattle.blocks.specs.Stack.{Block, block, many, top_of}
-use Rattle.blocks.specs.declared.Top as top
-use Rattle.blocks.specs.declared.Top.TheVariants as tops
 use Rattle.steps.specs.States.{led_to, full_in, Sees}
-use Rattle.steps.specs.Steps.{Given, nothing, one_row, stop, given, giving, rows_of, Effect, stays, closes, ends, opens, halts, effect, answer_by, answer_of, Settles, Does, Met, as_awaited, without_name, without_unit}
+use Rattle.steps.specs.Steps.{Given, nothing, one_row, stop, number_of, row_given, given, after, giving, rows_of, Effect, stays, closes, ends, opens, halts, effect, answer_by, answer_of, Settles, Does, Met, as_awaited, without_name, without_unit}
 use Rattle.steps.specs.declared.Awaited.{Awaited}
+use Rattle.steps.specs.declared.Misfit.{Misfit}
+use Rattle.steps.specs.declared.Misfit.TheVariants as misfits
 use Rattle.steps.specs.declared.State.{State}
 use Rattle.steps.specs.declared.Stepped.{Stepped}
 use Rattle.steps.proofs.Meeting.{apart}
@@ -31,26 +32,26 @@ abbrev nested : kind.Kind → ℕ → List Block
 nested k zero = []
 nested k (suc n) = block k 0 0 ∷ nested k n
 
-abbrev open_blocks : top.Top → Bool → List Block
-open_blocks tops.Outside full = []
-open_blocks tops.Object false = nested kinds.Object 1
-open_blocks tops.Object true = nested kinds.Object deepest
-open_blocks tops.Group false = nested kinds.Group 1
-open_blocks tops.Group true = nested kinds.Group deepest
+abbrev open_blocks : Option kind.Kind → Bool → List Block
+open_blocks None full = []
+open_blocks (Some kinds.Object) false = nested kinds.Object 1
+open_blocks (Some kinds.Object) true = nested kinds.Object deepest
+open_blocks (Some kinds.Group) false = nested kinds.Group 1
+open_blocks (Some kinds.Group) true = nested kinds.Group deepest
 
-seen_top : (u : top.Top) (full : Bool) → u ≡ top_of (open_blocks u full)
-seen_top tops.Outside full = refl
-seen_top tops.Object false = refl
-seen_top tops.Object true = refl
-seen_top tops.Group false = refl
-seen_top tops.Group true = refl
+seen_top : (u : Option kind.Kind) (full : Bool) → u ≡ top_of (open_blocks u full)
+seen_top None full = refl
+seen_top (Some kinds.Object) false = refl
+seen_top (Some kinds.Object) true = refl
+seen_top (Some kinds.Group) false = refl
+seen_top (Some kinds.Group) true = refl
 
-seen_full : (u : top.Top) (full : Bool) → full_in u full ≡ leb deepest (many (open_blocks u full))
-seen_full tops.Outside full = refl
-seen_full tops.Object false = refl
-seen_full tops.Object true = refl
-seen_full tops.Group false = refl
-seen_full tops.Group true = refl
+seen_full : (u : Option kind.Kind) (full : Bool) → full_in u full ≡ leb deepest (many (open_blocks u full))
+seen_full None full = refl
+seen_full (Some kinds.Object) false = refl
+seen_full (Some kinds.Object) true = refl
+seen_full (Some kinds.Group) false = refl
+seen_full (Some kinds.Group) true = refl
 
 pub some_seen : (t : State) → Sees t (open_blocks t.top t.full)
 some_seen t = record { top = seen_top t.top t.full; full = seen_full t.top t.full }
@@ -69,7 +70,7 @@ told (machine.goes q o rs) = some_rows rs
 abbrev told_of : Given → Told
 told_of nothing = some_rows []
 told_of (one_row row) = some_rows (row_of row ∷ [])
-told_of (stop c) = a_stop c
+told_of (stop m) = a_stop (number_of m)
 
 row_told : (label : List ℕ) (bs : List Block) (s : State) (row : Row) → told (answer_of label bs s (one_row row)) ≡ some_rows (row_of row ∷ [])
 row_told label bs s (rows.Attribute a b) = refl
@@ -91,18 +92,33 @@ row_told label bs s (rows.Last a) = refl
 told_again : (label : List ℕ) (bs : List Block) (s : State) (g : Given) → told (answer_of label bs s g) ≡ told_of g
 told_again label bs s nothing = refl
 told_again label bs s (one_row row) = row_told label bs s row
-told_again label bs s (stop c) = refl
+told_again label bs s (stop m) = refl
+
+-- a refusal by its number
+abbrev misfit_at : ℕ → Misfit
+misfit_at c =
+    cond (eqb c 5) misfits.PastLimit (cond (eqb c 6) misfits.Misplaced (cond (eqb c 7) misfits.OtherName (cond (eqb c 8) misfits.TooDeep misfits.EndNotSetOff)))
+
+number_again : (m : Misfit) → misfit_at (number_of m) ≡ m
+number_again misfits.PastLimit = refl
+number_again misfits.Misplaced = refl
+number_again misfits.OtherName = refl
+number_again misfits.TooDeep = refl
+number_again misfits.EndNotSetOff = refl
+
+pub number_once : {m m' : Misfit} → number_of m ≡ number_of m' → m ≡ m'
+number_once {m} {m'} h = sym (number_again m) ∙ ap misfit_at h ∙ number_again m'
 
 told_once : (g g' : Given) → told_of g ≡ told_of g' → g ≡ g'
 told_once nothing nothing e = refl
 told_once nothing (one_row row) e = absurd (let z : ◌≡◌ {A = ℕ} 0 1 = cc in omega arith)
-told_once nothing (stop c) e = absurd (let z : ◌≡◌ {A = ℕ} 0 1 = cc in omega arith)
+told_once nothing (stop m) e = absurd (let z : ◌≡◌ {A = ℕ} 0 1 = cc in omega arith)
 told_once (one_row row) nothing e = absurd (let z : ◌≡◌ {A = ℕ} 0 1 = cc in omega arith)
 told_once (one_row row) (one_row row') e = let h : row_of row ≡ row_of row' = cc in ap one_row (row_once h)
-told_once (one_row row) (stop c) e = absurd (let z : ◌≡◌ {A = ℕ} 0 1 = cc in omega arith)
-told_once (stop c) nothing e = absurd (let z : ◌≡◌ {A = ℕ} 0 1 = cc in omega arith)
-told_once (stop c) (one_row row) e = absurd (let z : ◌≡◌ {A = ℕ} 0 1 = cc in omega arith)
-told_once (stop c) (stop c') e = cc
+told_once (one_row row) (stop m) e = absurd (let z : ◌≡◌ {A = ℕ} 0 1 = cc in omega arith)
+told_once (stop m) nothing e = absurd (let z : ◌≡◌ {A = ℕ} 0 1 = cc in omega arith)
+told_once (stop m) (one_row row) e = absurd (let z : ◌≡◌ {A = ℕ} 0 1 = cc in omega arith)
+told_once (stop m) (stop m') e = let h : number_of m ≡ number_of m' = cc in ap stop (number_once h)
 
 -- ---- the state
 
@@ -120,16 +136,26 @@ by_effect label bs t e s s' l (halts c) h h' z = h ∙ sym h'
 
 -- ---- the step
 
-pub step_once : {label : List ℕ} {t : State} {q : machine.State} {e : Element} {r r' : Stepped} → Does label t q e r → Does label t q e r' → r ≡ r'
+filled_by : (s : State) (o : Option Row) → Ok (record { state = s; row = o }) ≡ giving s (row_given o)
+unfolding giving
+filled_by s None = refl
+filled_by s (Some row) = refl
+
+filled : (t : State) (r : Result Stepped Misfit) → r ≡ giving (after t r) (given r)
+unfolding giving
+filled t (Ok r) = filled_by r.state r.row
+filled t (Err m) = refl
+
+pub step_once : {label : List ℕ} {t : State} {q : machine.State} {e : Element} {r r' : Result Stepped Misfit} → Does label t q e r → Does label t q e r' → r ≡ r'
 step_once {label} {t} {e = e} {r = r} {r' = r'} d d' =
     let bs = open_blocks t.top t.full in
-    let z : answer_of label bs r.state (given r) ≡ answer_of label bs r'.state (given r') = d.does bs (some_seen t) ∙ sym (d'.does bs (some_seen t)) in
-    let w : given r ≡ given r' = told_once (given r) (given r') (sym (told_again label bs r.state (given r)) ∙ ap told z ∙ told_again label bs r'.state (given r')) in
-    let h : Settles label t e r'.state (effect (given r)) = subst (λ (x : Given). Settles label t e r'.state (effect x)) (sym w) d'.leaves.settles in
-    let s : r.state ≡ r'.state =
-    by_effect label bs t e r.state r'.state (rows_of (given r)) (effect (given r)) d.leaves.settles h
-    (ap state_after z ∙ ap (λ (x : Given). state_after (answer_of label bs r'.state x)) (sym w)) in
-    d.fillers ∙ ap₂ giving s w ∙ sym d'.fillers
+    let z : answer_of label bs (after t r) (given r) ≡ answer_of label bs (after t r') (given r') = d.does bs (some_seen t) ∙ sym (d'.does bs (some_seen t)) in
+    let w : given r ≡ given r' = told_once (given r) (given r') (sym (told_again label bs (after t r) (given r)) ∙ ap told z ∙ told_again label bs (after t r') (given r')) in
+    let h : Settles label t e (after t r') (effect (given r)) = subst (λ (x : Given). Settles label t e (after t r') (effect x)) (sym w) d'.leaves.settles in
+    let s : after t r ≡ after t r' =
+    by_effect label bs t e (after t r) (after t r') (rows_of (given r)) (effect (given r)) d.leaves.settles h
+    (ap state_after z ∙ ap (λ (x : Given). state_after (answer_of label bs (after t r') x)) (sym w)) in
+    filled t r ∙ ap₂ giving s w ∙ sym (filled t r')
 
 -- ---- what an element is met as
 

@@ -1,4 +1,4 @@
--- The words and signs of one spelling by number, as the code tells them apart.
+-- The words and signs of one spelling by number: what elements are told apart by.
 use Rattle.std.specs.Prelude.{ℕ}
 use Rattle.rules.specs.Data as rule
 use Rattle.words.specs.Says.{fixed_of}

@@ -1,5 +1,5 @@
 -- What the code's states and open blocks mean in the rules' machine, and how states are made.
-use Rattle.std.specs.Prelude.{ℕ, ◌≡◌, Bool, false, List, [], ◌∷◌, leb}
+use Rattle.std.specs.Prelude.{ℕ, ◌≡◌, Bool, false, Option, None, Some, List, [], ◌∷◌, leb}
 use Rattle.rules.proofs.Machine.Statements as machine
 use Rattle.classes.specs.Places.{as_span, name_at}
 use Rattle.rows.specs.Rows.{deepest, kind_of, op_of, place_in}
@@ -11,8 +11,6 @@ use Rattle.rows.specs.declared.Op.TheVariants as ops
 use Rattle.rows.specs.declared.Nest as nest
 use Rattle.rows.specs.declared.Nest.TheVariants as nests
 use Rattle.blocks.specs.Stack.{Block, block, many, top_of}
-use Rattle.blocks.specs.declared.Top as top
-use Rattle.blocks.specs.declared.Top.TheVariants as tops
 use Rattle.steps.specs.declared.Awaited.{Awaited}
 use Rattle.steps.specs.declared.Awaited.TheVariants as await
 use Rattle.steps.specs.declared.State.{State}
@@ -79,7 +77,7 @@ first_state =
       nest = nests.Alone;
       kind = kinds.Object;
       op = ops.First;
-      top = tops.Outside;
+      top = None;
       full = false;
       from = 0;
       upto = 0;
@@ -123,10 +121,9 @@ led_to t machine.at_end = awaiting t await.Ended
 -- ---- the open blocks
 
 -- whether as many are open as may be: outside all blocks none is, whatever `full` holds, so every state sees some blocks
-abbrev pub full_in : top.Top → Bool → Bool
-full_in tops.Outside full = false
-full_in tops.Object full = full
-full_in tops.Group full = full
+abbrev pub full_in : Option kind.Kind → Bool → Bool
+full_in None full = false
+full_in (Some k) full = full
 
 abbrev pub is_full : State → Bool
 is_full t = full_in t.top t.full

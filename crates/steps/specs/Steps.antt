@@ -1,5 +1,5 @@
 -- What a step gives, and that it is the machine's step.
-use Rattle.std.specs.Prelude.{ℕ, ◌≡◌, false, List, [], ◌∷◌}
+use Rattle.std.specs.Prelude.{ℕ, ◌≡◌, false, List, [], ◌∷◌, Option, None, Some, Result, Ok, Err}
 use Rattle.rules.specs.Data as rule
 use Rattle.rules.specs.Modes.{base}
 use Rattle.rules.specs.Grammar.{strict}
@@ -13,46 +13,55 @@ use Rattle.rows.specs.declared.Kind as kind
 use Rattle.rows.specs.declared.Row.{Row}
 use Rattle.rows.specs.declared.Row.TheVariants as rows
 use Rattle.blocks.specs.Stack.{Block, block, rest, opens_of}
-use Rattle.blocks.specs.declared.Top.TheVariants as tops
+use Rattle.rows.specs.declared.Kind.TheVariants as kinds
 use Rattle.steps.specs.Signs.{sign_of}
 use Rattle.steps.specs.States.{state_of, following_in, awaiting, closing, led_to, is_full, Sees, Room}
 use Rattle.steps.specs.declared.Awaited.{Awaited}
 use Rattle.steps.specs.declared.Awaited.TheVariants as await
-use Rattle.steps.specs.declared.Gives.{Gives}
-use Rattle.steps.specs.declared.Gives.TheVariants as gives
+use Rattle.steps.specs.declared.Misfit.{Misfit}
+use Rattle.steps.specs.declared.Misfit.TheVariants as misfits
 use Rattle.steps.specs.declared.State.{State}
 use Rattle.steps.specs.declared.Stepped.{Stepped}
 
 -- ---- what a step gives
 
--- nothing, a row, or a stop by its code
+-- the number that the document has for a refusal
+abbrev pub number_of : Misfit → ℕ
+number_of misfits.PastLimit = 5
+number_of misfits.Misplaced = 6
+number_of misfits.OtherName = 7
+number_of misfits.TooDeep = 8
+number_of misfits.EndNotSetOff = 9
+
+-- nothing, a row, or a stop
 pub data Given : Type 0 where
   nothing : Given
   one_row : Row → Given
-  stop : ℕ → Given
+  stop : Misfit → Given
 
-abbrev pub given_by : Gives → Row → ℕ → Given
-given_by gives.Nothing row c = nothing
-given_by gives.One row c = one_row row
-given_by gives.Stop row c = stop c
+abbrev pub row_given : Option Row → Given
+row_given None = nothing
+row_given (Some row) = one_row row
 
-abbrev pub given : Stepped → Given
-given r = given_by r.gives r.row r.code
+abbrev pub given : Result Stepped Misfit → Given
+given (Ok r) = row_given r.row
+given (Err m) = stop m
 
--- the row beside where none is given
-abbrev pub filler : Row
-filler = rows.Set
+-- the state after it: a refusal leaves it
+abbrev pub after : State → Result Stepped Misfit → State
+after t (Ok r) = r.state
+after t (Err m) = t
 
--- the one outcome that gives this, with filler and 0 beside it where they count for nothing
-unfoldable pub giving : State → Given → Stepped
-giving s nothing = record { state = s; gives = gives.Nothing; row = filler; code = 0 }
-giving s (one_row row) = record { state = s; gives = gives.One; row = row; code = 0 }
-giving s (stop c) = record { state = s; gives = gives.Stop; row = filler; code = c }
+-- the one outcome that gives this
+unfoldable pub giving : State → Given → Result Stepped Misfit
+giving s nothing = Ok (record { state = s; row = None })
+giving s (one_row row) = Ok (record { state = s; row = Some row })
+giving s (stop m) = Err m
 
 abbrev pub rows_of : Given → List rule.Row
 rows_of nothing = []
 rows_of (one_row row) = row_of row ∷ []
-rows_of (stop c) = []
+rows_of (stop m) = []
 
 -- what that asks of the loop: nothing, a block opened or closed, an end, or a refusal
 pub data Effect : Type 0 where
@@ -80,7 +89,7 @@ row_effect (rows.Last a) = ends
 abbrev pub effect : Given → Effect
 effect nothing = stays
 effect (one_row row) = row_effect row
-effect (stop c) = halts c
+effect (stop m) = halts (number_of m)
 
 -- ---- the machine's answer that a step is
 
@@ -105,7 +114,7 @@ Settles label t e s stays =
     (is_end (state_of label s) ≡ false) × (s.top ≡ t.top) × (s.full ≡ t.full) × (s ≡ led_to t (state_of label s))
 Settles label t e s (opens k a b) = (e ≡ Name a b) × (Room t → is_full t ≡ false) × (s ≡ awaiting t await.Statement)
 Settles label t e s closes = s ≡ awaiting t await.Closed
-Settles label t e s ends = (s ≡ awaiting t await.Ended) × (t.top ≡ tops.Outside)
+Settles label t e s ends = (s ≡ awaiting t await.Ended) × (t.top ≡ None)
 Settles label t e s (halts c) = s ≡ t
 
 -- what holds from element to element
@@ -113,13 +122,11 @@ pub record Leaves (label : List ℕ) (t : State) (e : Element) (s : State) (g : 
   pub room : Room t → Room s
   pub settles : Settles label t e s (effect g)
 
--- The step that gave r, in the state t over the element e, is the machine's step in the state q, whatever the open blocks are that t sees;
--- and what does not count in r is filled as ever.
-pub record Does (label : List ℕ) (t : State) (q : machine.State) (e : Element) (r : Stepped) : Type 0 where
-  pub fillers : r ≡ giving r.state (given r)
-  pub leaves : Leaves label t e r.state (given r)
+-- The step that gave r, in the state t over the element e, is the machine's step in the state q, whatever the open blocks are that t sees.
+pub record Does (label : List ℕ) (t : State) (q : machine.State) (e : Element) (r : Result Stepped Misfit) : Type 0 where
+  pub leaves : Leaves label t e (after t r) (given r)
   pub does : (bs : List Block) → Sees t bs →
-      answer_of label bs r.state (given r) ≡ machine.step base strict q (opens_of label bs) (placed_of label e)
+      answer_of label bs (after t r) (given r) ≡ machine.step base strict q (opens_of label bs) (placed_of label e)
 
 -- What an element is met as: what the state awaits, or, where a number has no unit or the word that closes a block no name, what follows
 -- without.

@@ -10,13 +10,11 @@ mod values; // values.rt: values
 ghost use Rattle.steps.specs.States.{state_of};
 ghost use Rattle.steps.specs.Steps.{Does};
 
-use blocks::Top;
 use elements::Element;
 use lines::{
     after_number, at_equals, begin, block_equals, block_name, closed, closing_name, ended, pointer,
 };
 use moves::settled;
-pub use moves::{END_NOT_SET_OFF, MISPLACED, OTHER_NAME, TOO_DEEP};
 use rows::{Kind, Nest, Op, Row};
 pub use signs::start_of;
 use units::{after_exponent, after_unit, exponent, unit_name};
@@ -59,33 +57,31 @@ pub struct State {
     pub nest: Nest,
     pub kind: Kind,
     pub op: Op,
-    pub top: Top,
+    pub top: Option<Kind>,
     pub full: bool,
     pub from: usize,
     pub upto: usize,
 }
 
-// What an element gives: nothing, the row beside it, or a stop with the code beside it. They stand beside it because an enum with a row
-// inside goes through memory at each element.
-#[derive(Clone, Copy)]
-pub enum Gives {
-    Nothing,
-    One,
-    Stop,
+// Why an element is refused.
+#[derive(Clone, Copy, PartialEq, Eq)]
+pub enum Misfit {
+    PastLimit,
+    Misplaced,
+    OtherName,
+    TooDeep,
+    EndNotSetOff,
 }
 
-// A row that opens or closes a block asks the loop to do so. Where no row is given, row is one filler; where there is no stop, code is 0.
-// A stop is at the element's own place, `start_of`.
+// The state that an element leads to, and the row that it gives, if any. A row that opens or closes a block asks the loop to do so.
 #[derive(Clone, Copy)]
 pub struct Stepped {
     pub state: State,
-    pub gives: Gives,
-    pub row: Row,
-    pub code: u8,
+    pub row: Option<Row>,
 }
 
-// Each that can be awaited has its function.
-pub fn step(label: &[u8], t: State, e: Element) -> Stepped
+// Each that can be awaited has its function. An element is refused at its own place, `start_of`.
+pub fn step(label: &[u8], t: State, e: Element) -> Result<Stepped, Misfit>
     ensures { Does label.now t (state_of label.now t) e result }
 {
     let awaited = settled(t, e);

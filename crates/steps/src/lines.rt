@@ -7,168 +7,156 @@ ghost use Rattle.steps.specs.States.{is_full};
 ghost use Rattle.steps.specs.Steps.{Does};
 ghost use Rattle.classes.specs.Places.{name_at};
 
-use crate::moves::{
-    END_NOT_SET_OFF, MISPLACED, OTHER_NAME, TOO_DEEP, awaiting, awaiting_in, awaiting_unit, giving,
-    opening, passing, refuse,
-};
-use crate::signs::{END_GROUP, END_OBJECT, GROUP, OBJECT, sign_of};
-use crate::{Awaited, State, Stepped};
-use blocks::Top;
+use crate::moves::{giving, passing};
+use crate::signs::is_the;
+use crate::{Awaited, Misfit, State, Stepped};
 use classes::{alike, part};
 use elements::Element;
 use rows::{Kind, Nest, Op, Row};
+use words::Fixed;
 
-pub fn at_equals(label: &[u8], t: State, e: Element) -> Stepped
+pub fn at_equals(label: &[u8], t: State, e: Element) -> Result<Stepped, Misfit>
     ensures { Does label.now t at_equals e result }
 {
-    let c = sign_of(e);
-    if c == b'=' {
-        return passing(awaiting_in(t, Awaited::Value, Nest::Alone));
+    if is_the(e, Fixed::Equals) {
+        return passing(t.awaiting_in(Awaited::Value, Nest::Alone));
     }
-    refuse(t, MISPLACED)
+    Err(Misfit::Misplaced)
 }
 
-pub fn pointer(label: &[u8], t: State, e: Element) -> Stepped
+pub fn pointer(label: &[u8], t: State, e: Element) -> Result<Stepped, Misfit>
     ensures { Does label.now t at_pointer e result }
 {
     let Element::Name(a, b) = e else {
-        return refuse(t, MISPLACED);
+        return Err(Misfit::Misplaced);
     };
-    giving(awaiting(t, Awaited::Equals), Row::Pointer(a, b))
+    giving(t.awaiting(Awaited::Equals), Row::Pointer(a, b))
 }
 
-pub fn block_equals(label: &[u8], t: State, e: Element) -> Stepped
+pub fn block_equals(label: &[u8], t: State, e: Element) -> Result<Stepped, Misfit>
     requires { t.awaited ≡ Awaited.BlockEquals }
     ensures { Does label.now t (at_opener (kind_of t.kind)) e result }
 {
-    let c = sign_of(e);
-    if c == b'=' {
-        return passing(awaiting(t, Awaited::BlockName));
+    if is_the(e, Fixed::Equals) {
+        return passing(t.awaiting(Awaited::BlockName));
     }
-    refuse(t, MISPLACED)
+    Err(Misfit::Misplaced)
 }
 
-pub fn block_name(label: &[u8], t: State, e: Element) -> Stepped
+pub fn block_name(label: &[u8], t: State, e: Element) -> Result<Stepped, Misfit>
     requires { t.awaited ≡ Awaited.BlockName }
     ensures { Does label.now t (at_opened (kind_of t.kind)) e result }
 {
     let Element::Name(a, b) = e else {
-        return refuse(t, MISPLACED);
+        return Err(Misfit::Misplaced);
     };
-    let kind = t.kind;
-    giving(awaiting(t, Awaited::Statement), Row::Open(kind, a, b))
+    giving(t.awaiting(Awaited::Statement), Row::Open(t.kind, a, b))
 }
 
 // Whether as many blocks are open as may be: outside all blocks none is.
 fn is_full(t: State) -> bool
     ensures { result ≡ is_full t }
 {
-    let top = t.top;
-    match top {
-        Top::Outside => false,
-        Top::Object => t.full,
-        Top::Group => t.full,
+    match t.top {
+        None => false,
+        Some(_) => t.full,
     }
 }
 
 // OBJECT or GROUP
-pub fn open_word(label: &[u8], t: State, k: Kind, e: Element) -> Stepped
+pub fn open_word(label: &[u8], t: State, k: Kind, e: Element) -> Result<Stepped, Misfit>
     requires { sign_of e ≡ open_code k }
     ensures { Does label.now t at_semicolon e result }
 {
     if is_full(t) {
-        return refuse(t, TOO_DEEP);
+        return Err(Misfit::TooDeep);
     }
-    passing(opening(t, k))
+    passing(t.opening(k))
 }
 
-pub fn word(label: &[u8], t: State, e: Element) -> Stepped
+pub fn word(label: &[u8], t: State, e: Element) -> Result<Stepped, Misfit>
     requires { Word e }
     ensures { Does label.now t at_semicolon e result }
 {
-    let c = sign_of(e);
-    if c == b'^' {
-        return passing(awaiting(t, Awaited::Pointer));
+    if is_the(e, Fixed::Caret) {
+        return passing(t.awaiting(Awaited::Pointer));
     }
-    if c == OBJECT {
+    if is_the(e, Fixed::Object) {
         return open_word(label, t, Kind::Object, e);
     }
-    if c == GROUP {
+    if is_the(e, Fixed::Group) {
         return open_word(label, t, Kind::Group, e);
     }
-    let top = t.top;
-    match top {
-        Top::Outside => refuse(t, MISPLACED),
-        Top::Object => {
-            if c == END_OBJECT {
-                return giving(awaiting(t, Awaited::Closed), Row::Close(Kind::Object));
+    match t.top {
+        None => Err(Misfit::Misplaced),
+        Some(kind) => match kind {
+            Kind::Object => {
+                if is_the(e, Fixed::EndObject) {
+                    return giving(t.awaiting(Awaited::Closed), Row::Close(Kind::Object));
+                }
+                Err(Misfit::Misplaced)
             }
-            refuse(t, MISPLACED)
-        }
-        Top::Group => {
-            if c == END_GROUP {
-                return giving(awaiting(t, Awaited::Closed), Row::Close(Kind::Group));
+            Kind::Group => {
+                if is_the(e, Fixed::EndGroup) {
+                    return giving(t.awaiting(Awaited::Closed), Row::Close(Kind::Group));
+                }
+                Err(Misfit::Misplaced)
             }
-            refuse(t, MISPLACED)
-        }
+        },
     }
 }
 
-pub fn begin(label: &[u8], t: State, e: Element) -> Stepped
+pub fn begin(label: &[u8], t: State, e: Element) -> Result<Stepped, Misfit>
     ensures { Does label.now t at_semicolon e result }
 {
     match e {
-        Element::Name(a, b) => giving(awaiting(t, Awaited::Equals), Row::Attribute(a, b)),
+        Element::Name(a, b) => giving(t.awaiting(Awaited::Equals), Row::Attribute(a, b)),
         Element::The(_, _, _) => word(label, t, e),
         Element::End(off, _, b) => {
-            let top = t.top;
-            match top {
-                Top::Outside => {
+            match t.top {
+                None => {
                     if off {
-                        return giving(awaiting(t, Awaited::Ended), Row::Last(b));
+                        return giving(t.awaiting(Awaited::Ended), Row::Last(b));
                     }
-                    refuse(t, END_NOT_SET_OFF)
+                    Err(Misfit::EndNotSetOff)
                 }
-                Top::Object => refuse(t, MISPLACED),
-                Top::Group => refuse(t, MISPLACED),
+                Some(_) => Err(Misfit::Misplaced),
             }
         }
-        _ => refuse(t, MISPLACED),
+        _ => Err(Misfit::Misplaced),
     }
 }
 
 // The sign that begins a unit: a number without one is met as what follows it.
-pub fn after_number(label: &[u8], t: State, e: Element) -> Stepped
+pub fn after_number(label: &[u8], t: State, e: Element) -> Result<Stepped, Misfit>
     requires { sign_of e ≡ 60 }
     ensures { Does label.now t (at_number (place_in t.nest)) e result }
 {
-    passing(awaiting_unit(t, Op::First))
+    passing(t.awaiting_unit(Op::First))
 }
 
 // The sign between a closing word and its name: a word without one is met as a statement.
-pub fn closed(label: &[u8], t: State, e: Element) -> Stepped
+pub fn closed(label: &[u8], t: State, e: Element) -> Result<Stepped, Misfit>
     requires { sign_of e ≡ 61 }
     ensures { Does label.now t (at_closer (name_at label.now t.from t.upto)) e result }
 {
-    passing(awaiting(t, Awaited::ClosingName))
+    passing(t.awaiting(Awaited::ClosingName))
 }
 
-pub fn closing_name(label: &[u8], t: State, e: Element) -> Stepped
+pub fn closing_name(label: &[u8], t: State, e: Element) -> Result<Stepped, Misfit>
     ensures { Does label.now t (at_closed (name_at label.now t.from t.upto)) e result }
 {
     let Element::Name(a, b) = e else {
-        return refuse(t, MISPLACED);
+        return Err(Misfit::Misplaced);
     };
-    let x = t.from;
-    let y = t.upto;
-    if alike(part(label, a, b), part(label, x, y)) {
-        return passing(awaiting(t, Awaited::Statement));
+    if alike(part(label, a, b), part(label, t.from, t.upto)) {
+        return passing(t.awaiting(Awaited::Statement));
     }
-    refuse(t, OTHER_NAME)
+    Err(Misfit::OtherName)
 }
 
-pub fn ended(label: &[u8], t: State, e: Element) -> Stepped
+pub fn ended(label: &[u8], t: State, e: Element) -> Result<Stepped, Misfit>
     ensures { Does label.now t at_end e result }
 {
-    refuse(t, MISPLACED)
+    Err(Misfit::Misplaced)
 }

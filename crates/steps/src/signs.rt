@@ -1,56 +1,18 @@
-// What elements are told apart by: a number for each word and sign of one spelling, and the place where an element begins.
-ghost use Rattle.std.specs.Prelude.{◌≡◌};
+// What elements are told apart by: which word or sign of one spelling each is, and the place where it begins.
+ghost use Rattle.std.specs.Prelude.{◌≡◌, eqb};
 ghost use Rattle.elements.specs.Next.{place_of};
 ghost use Rattle.steps.specs.Signs.{sign_of, word_code};
 
-use classes::less_one;
 use elements::Element;
 use words::Fixed;
 
-// A sign's number is its byte. The words have numbers that no sign has, and so has `**`, which is two bytes.
-pub const OBJECT: u8 = 1;
-
-pub const END_OBJECT: u8 = 2;
-
-pub const GROUP: u8 = 3;
-
-pub const END_GROUP: u8 = 4;
-
-pub const BEGIN_OBJECT: u8 = 5;
-
-pub const POWER: u8 = 33;
-
-fn word_code(k: Fixed) -> u8
-    ensures { result ≡ word_code k }
-{
-    match k {
-        Fixed::Object => OBJECT,
-        Fixed::EndObject => END_OBJECT,
-        Fixed::Group => GROUP,
-        Fixed::EndGroup => END_GROUP,
-        Fixed::BeginObject => BEGIN_OBJECT,
-        Fixed::Equals => b'=',
-        Fixed::Comma => b',',
-        Fixed::Star => b'*',
-        Fixed::Slash => b'/',
-        Fixed::Caret => b'^',
-        Fixed::Less => b'<',
-        Fixed::Greater => b'>',
-        Fixed::OpenParen => b'(',
-        Fixed::CloseParen => b')',
-        Fixed::OpenBrace => b'{',
-        Fixed::CloseBrace => b'}',
-        Fixed::Power => POWER,
-    }
-}
-
-// That number, 0 for an element of another sort.
-pub fn sign_of(e: Element) -> u8
-    ensures { result ≡ sign_of e }
+// Whether an element is this word or sign.
+pub fn is_the(e: Element, sign: Fixed) -> bool
+    ensures { result ≡ eqb (sign_of e) (word_code sign) }
 {
     match e {
-        Element::The(k, _, _) => word_code(k),
-        _ => 0,
+        Element::The(k, _, _) => k == sign,
+        _ => false,
     }
 }
 
@@ -66,7 +28,7 @@ pub fn start_of(e: Element) -> usize
         Element::Based(_, _, a, _) => a,
         Element::Float(_, a, _) => a,
         Element::Time(_, a, _) => a,
-        Element::Text(a, _) => less_one(a),
-        Element::Symbol(a, _) => less_one(a),
+        Element::Text(a, _) => a.saturating_sub(1),
+        Element::Symbol(a, _) => a.saturating_sub(1),
     }
 }

@@ -4,77 +4,74 @@ ghost use Rattle.classes.specs.Places.{as_span};
 ghost use Rattle.rows.specs.Rows.{op_of, place_in};
 ghost use Rattle.steps.specs.Steps.{Does};
 
-use crate::moves::{
-    MISPLACED, awaiting, awaiting_unit, giving, passing, refuse, scalar_done, with_unit,
-};
-use crate::signs::{POWER, sign_of};
-use crate::{Awaited, State, Stepped};
-use elements::{Element, PAST_LIMIT};
+use crate::moves::{giving, passing};
+use crate::signs::is_the;
+use crate::{Awaited, Misfit, State, Stepped};
+use elements::Element;
 use rows::{Op, Row};
+use words::Fixed;
 
 const LARGEST_EXPONENT: u64 = 99;
 
-pub fn unit_name(label: &[u8], t: State, e: Element) -> Stepped
+pub fn unit_name(label: &[u8], t: State, e: Element) -> Result<Stepped, Misfit>
     ensures { Does label.now t (at_unit (place_in t.nest) (op_of t.op)) e result }
 {
     let Element::Name(a, b) = e else {
-        return refuse(t, MISPLACED);
+        return Err(Misfit::Misplaced);
     };
-    passing(with_unit(t, a, b))
+    passing(t.with_unit(a, b))
 }
 
-pub fn after_unit(label: &[u8], t: State, e: Element) -> Stepped
+pub fn after_unit(label: &[u8], t: State, e: Element) -> Result<Stepped, Misfit>
     ensures { Does label.now t (at_power (place_in t.nest) (op_of t.op) (as_span t.from t.upto)) e result }
 {
-    let c = sign_of(e);
-    let op = t.op;
-    let a = t.from;
-    let b = t.upto;
-    if c == POWER {
-        return passing(awaiting(t, Awaited::Exponent));
+    if is_the(e, Fixed::Power) {
+        return passing(t.awaiting(Awaited::Exponent));
     }
-    if c == b'*' {
-        return giving(awaiting_unit(t, Op::Times), Row::Unit(op, a, b, false, 1));
+    if is_the(e, Fixed::Star) {
+        return giving(
+            t.awaiting_unit(Op::Times),
+            Row::Unit(t.op, t.from, t.upto, false, 1),
+        );
     }
-    if c == b'/' {
-        return giving(awaiting_unit(t, Op::Divided), Row::Unit(op, a, b, false, 1));
+    if is_the(e, Fixed::Slash) {
+        return giving(
+            t.awaiting_unit(Op::Divided),
+            Row::Unit(t.op, t.from, t.upto, false, 1),
+        );
     }
-    if c == b'>' {
-        return giving(scalar_done(t), Row::Unit(op, a, b, false, 1));
+    if is_the(e, Fixed::Greater) {
+        return giving(t.scalar_done(), Row::Unit(t.op, t.from, t.upto, false, 1));
     }
-    refuse(t, MISPLACED)
+    Err(Misfit::Misplaced)
 }
 
-pub fn exponent(label: &[u8], t: State, e: Element) -> Stepped
+pub fn exponent(label: &[u8], t: State, e: Element) -> Result<Stepped, Misfit>
     ensures { Does label.now t (at_exponent (place_in t.nest) (op_of t.op) (as_span t.from t.upto)) e result }
 {
     let Element::Integer(m, v, _, _) = e else {
-        return refuse(t, MISPLACED);
+        return Err(Misfit::Misplaced);
     };
     if LARGEST_EXPONENT < v {
-        return refuse(t, PAST_LIMIT);
+        return Err(Misfit::PastLimit);
     }
-    let op = t.op;
-    let a = t.from;
-    let b = t.upto;
     giving(
-        awaiting(t, Awaited::AfterExponent),
-        Row::Unit(op, a, b, m, v),
+        t.awaiting(Awaited::AfterExponent),
+        Row::Unit(t.op, t.from, t.upto, m, v),
     )
 }
 
-pub fn after_exponent(label: &[u8], t: State, e: Element) -> Stepped
+pub fn after_exponent(label: &[u8], t: State, e: Element) -> Result<Stepped, Misfit>
     ensures { Does label.now t (at_factor (place_in t.nest)) e result }
 {
-    let c = sign_of(e);
-    if c == b'*' {
-        return passing(awaiting_unit(t, Op::Times));
+    if is_the(e, Fixed::Star) {
+        return passing(t.awaiting_unit(Op::Times));
     }
-    if c == b'/' {
-        return passing(awaiting_unit(t, Op::Divided));
+    if is_the(e, Fixed::Slash) {
+        return passing(t.awaiting_unit(Op::Divided));
     }
-    if c == b'>' {
-        return passing(scalar_done(t));
+    if is_the(e, Fixed::Greater) {
+        return passing(t.scalar_done());
     }
-    refuse(t, MISPLACED)
+    Err(Misfit::Misplaced)
 }

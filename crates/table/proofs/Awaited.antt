@@ -1,16 +1,16 @@
 -- The order of rows: the code's answer is that of the rules' machine, sort by sort.
 use Prim.Native.Nat.{ℕ, suc, ◌+◌, ◌≤◌, ◌<◌}
 use native.Mathlib.Decide.{dec_lt}
-use mathlib.Core.Bool.{Bool, true, false, cond, ◌&&◌, true≢false}
+use mathlib.Core.Bool.{Bool, true, false, cond}
 use mathlib.Core.Path.{◌≡◌, refl, sym, ap, ap₂, ◌∙◌}
 use mathlib.Core.List.{List, [], ◌∷◌}
 use native.Mathlib.Omega.{arith}
+use Rattle.std.specs.Prelude.{Option, Some, None}
 use borrow.Author.Rules.{rules}
-use borrow.Author.Tests.{eq-eqb, ne_eqb, le-leb, lt-leb, leb-false}
+use borrow.Author.Tests.{eq-eqb, ne_eqb, le-leb, lt-leb}
 use lib.Dec.{eqb, leb}
 use lib.ListN.{length}
 use Rattle.rules.specs.Data as rule
-use Rattle.rules.proofs.Tables.Tests.{and_left, and_right}
 use Rattle.rules.proofs.Machine.Rows.{Sort, s_attribute, s_pointer, s_opened, s_closed, s_number, s_other, s_unit_first, s_unit_more, s_sequence, s_sequence_end, s_set, s_set_end, s_last, sort, t_statement, Kinds, to_none, to, look, after_lines, sort_step}
 use Rattle.rules.proofs.Machine.Statements.{chosen}
 use Rattle.rows.specs.Rows.{place_in, row_of, deepest}
@@ -18,46 +18,39 @@ use Rattle.rows.specs.declared.Kind.TheVariants as kinds
 use Rattle.rows.specs.declared.Row.{Row}
 use Rattle.blocks.specs.Stack.{Block, block, blocks_of, rest, many, top_of, push_on, pop_off}
 use Rattle.blocks.specs.declared.Blocks.{Blocks}
-use Rattle.blocks.specs.declared.Top as top
-use Rattle.blocks.specs.declared.Top.TheVariants as tops
+use Rattle.rows.specs.declared.Kind as kind
 use Rattle.blocks.proofs.Opened.{counted}
-use Rattle.table.specs.Ordering.{sort_code, await_of, is_none, is_end, kinds_in, kinds_of, less, Nesting, opened_to, closing_to, after_to, next_of, to_of}
+use Rattle.table.specs.Ordering.{sort_code, await_of, kinds_in, kinds_of, less, Nesting, opened_to, closing_to, after_to, next_of, to_with, to_of}
 use Rattle.rows.specs.declared.Nest as nest
 use Rattle.rows.specs.declared.Nest.TheVariants as nests
 use Rattle.table.specs.declared.Await.{Await}
-use Rattle.table.specs.declared.Await.TheVariants.{Nothing, After, Number, Units, Value, First, SetFirst, InRow, Rows, End}
+use Rattle.table.specs.declared.Await.TheVariants.{After, Number, Units, Value, First, SetFirst, InRow, Rows, End}
 
 -- ---- the code's tests, one after another
 
-pub taken : (n e : ℕ) (t x : Await) → n ≡ e → t ≡ cond (eqb n e) t x
+pub taken : (n e : ℕ) (t x : Option Await) → n ≡ e → t ≡ cond (eqb n e) t x
 taken n e t x h = rw (eq-eqb n e h)
 
-pub passed : (n e : ℕ) (r t x : Await) → (n ≡ e → ⊥) → r ≡ x → r ≡ cond (eqb n e) t x
+pub passed : (n e : ℕ) (r t x : Option Await) → (n ≡ e → ⊥) → r ≡ x → r ≡ cond (eqb n e) t x
 passed n e r t x h q = rw (ne_eqb n e h) q
 
-pub taken_as : (n e : ℕ) (r t x : Await) → n ≡ e → r ≡ t → r ≡ cond (eqb n e) t x
+pub taken_as : (n e : ℕ) (r t x : Option Await) → n ≡ e → r ≡ t → r ≡ cond (eqb n e) t x
 taken_as n e r t x h q = rw (eq-eqb n e h) q
 
-pub no_room : (f : Bool) → f ≡ true → Nothing ≡ opened_to f
+pub no_room : (f : Bool) → f ≡ true → None ≡ opened_to f
 no_room f h = rw h
 
-pub room : (f : Bool) → f ≡ false → After nests.Alone ≡ opened_to f
+pub room : (f : Bool) → f ≡ false → Some (After nests.Alone) ≡ opened_to f
 room f h = rw h
 
-pub closing_is : (n : ℕ) (r : Await) {t v : top.Top} → t ≡ v → r ≡ closing_to n v → r ≡ closing_to n t
+pub closing_is : (n : ℕ) (r : Option Await) {t v : Option kind.Kind} → t ≡ v → r ≡ closing_to n v → r ≡ closing_to n t
 closing_is n r h e = rw h e
 
-pub after_is : (n : ℕ) (r : Await) (top : top.Top) (full : Bool) {c d : nest.Nest} → c ≡ d → r ≡ after_to n d top full → r ≡ after_to n c top full
+pub after_is : (n : ℕ) (r : Option Await) (top : Option kind.Kind) (full : Bool) {c d : nest.Nest} → c ≡ d → r ≡ after_to n d top full → r ≡ after_to n c top full
 after_is n r top full h e = rw h e
 
-pub next_is : (n : ℕ) (r : Await) (top : top.Top) (full : Bool) {t v : Await} → t ≡ v → r ≡ next_of v n top full → r ≡ next_of t n top full
+pub next_is : (n : ℕ) (r : Option Await) (top : Option kind.Kind) (full : Bool) {t v : Await} → t ≡ v → r ≡ next_of v n top full → r ≡ next_of t n top full
 next_is n r top full h e = rw h e
-
-pub none_is : {t v : Await} {b : Bool} → t ≡ v → b ≡ is_none v → b ≡ is_none t
-none_is h e = rw h e
-
-pub end_is : {t v : Await} {b : Bool} → t ≡ v → b ≡ is_end v → b ≡ is_end t
-end_is h e = rw h e
 
 pub sort_is : {row w : Row} {n : ℕ} → row ≡ w → n ≡ sort_code (sort (row_of w)) → n ≡ sort_code (sort (row_of row))
 sort_is h e = rw h e
@@ -87,7 +80,7 @@ module _ (n : ℕ) (b r : Blocks) where
 pub opens_none : (n : ℕ) (b : Blocks) → (n ≡ 3 → ⊥) → (n ≡ 5 → ⊥) → (n ≡ 4 → ⊥) → (n ≡ 6 → ⊥) → b.depth ≤ deepest → Nesting n b b
 opens_none n b h i j k l = record { on = rw (ne_eqb n 3 h, ne_eqb n 5 i, ne_eqb n 4 j, ne_eqb n 6 k); is = rw (ne_eqb n 3 h, ne_eqb n 5 i, ne_eqb n 4 j, ne_eqb n 6 k); within = l }
 
-pub ruleset order = (taken, passed, taken_as, no_room, room, closing_is, after_is, next_is, none_is, end_is, sort_is, roomy, opens_object, opens_group, closes_object, closes_group, opens_none, rules)
+pub ruleset order = (taken, passed, taken_as, no_room, room, closing_is, after_is, next_is, sort_is, roomy, opens_object, opens_group, closes_object, closes_group, opens_none, rules)
 
 -- ---- the machine
 
@@ -109,19 +102,19 @@ by_sort P a b c d e f g h i j k l m n o (s_opened rule.group) = d
 by_sort P a b c d e f g h i j k l m n o (s_closed rule.object) = e
 by_sort P a b c d e f g h i j k l m n o (s_closed rule.group) = f
 
-abbrev top_for : Kinds → top.Top
-top_for [] = tops.Outside
-top_for (rule.object ∷ o) = tops.Object
-top_for (rule.group ∷ o) = tops.Group
+abbrev top_for : Kinds → Option kind.Kind
+top_for [] = None
+top_for (rule.object ∷ o) = (Some kinds.Object)
+top_for (rule.group ∷ o) = (Some kinds.Group)
 
 abbrev full : Kinds → Bool
 full o = leb deepest (length o)
 
 -- a block opens where there is room for it
-opening : (n : ℕ) (o : Kinds) → chosen (dec_lt n deepest) (to t_statement o) to_none ≡ cond (is_none (opened_to (leb deepest n))) to_none (to (await_of (opened_to (leb deepest n))) o)
+opening : (n : ℕ) (o : Kinds) → chosen (dec_lt n deepest) (to t_statement o) to_none ≡ to_with o (opened_to (leb deepest n))
 opening n o = go (dec_lt n deepest)
   where
-    go : (d : Dec (n < deepest)) → chosen d (to t_statement o) to_none ≡ cond (is_none (opened_to (leb deepest n))) to_none (to (await_of (opened_to (leb deepest n))) o)
+    go : (d : Dec (n < deepest)) → chosen d (to t_statement o) to_none ≡ to_with o (opened_to (leb deepest n))
     go (yes h) = rw (lt-leb deepest n h)
     go (no h) = rw (le-leb deepest n (omega (arith, h)))
 
@@ -147,7 +140,6 @@ after_same nests.Row o s h = h
 after_same nests.Set o s h = h
 
 law : (t : Await) (o : Kinds) (s : Sort) → Law t o s
-law Nothing o = by_sort (Law Nothing o) refl refl refl refl refl refl refl refl refl refl refl refl refl refl refl
 law (After c) o = λ s. after_same c o s (after_law c o s)
 law (Number c) o =
     let a : (s : Sort) → AfterLaw c o s = after_law c o in
@@ -176,42 +168,9 @@ many_kinds (block k a b ∷ bs) = ap suc (many_kinds bs)
 pub depth_kinds : (b : Blocks) → length (kinds_of b) ≡ b.depth
 depth_kinds b = many_kinds (blocks_of b) ∙ counted b.starts b.ends b.kinds b.depth
 
-pub step_law : (t : Await) (b : Blocks) (s : Sort) (n : ℕ) (x : top.Top) (f : Bool) → n ≡ sort_code s → x ≡ top_of (blocks_of b) → f ≡ leb deepest b.depth →
+pub step_law : (t : Await) (b : Blocks) (s : Sort) (n : ℕ) (x : Option kind.Kind) (f : Bool) → n ≡ sort_code s → x ≡ top_of (blocks_of b) → f ≡ leb deepest b.depth →
     sort_step (await_of t) (kinds_of b) s ≡ to_of (kinds_of b) n (next_of t n x f)
 step_law t b s n x f e g h =
     let p : top_for (kinds_of b) ≡ x = sym (g ∙ top_kinds (blocks_of b)) in
     let q : full (kinds_of b) ≡ f = ap (λ (i : ℕ). leb deepest i) (depth_kinds b) ∙ sym h in
-    law t (kinds_of b) s ∙ ap₂ (λ (y : top.Top) (g : Bool). to_of (kinds_of b) (sort_code s) (next_of t (sort_code s) y g)) p q ∙ ap (λ (i : ℕ). to_of (kinds_of b) i (next_of t i x f)) (sym e)
-
--- where there is no room no block opens
-after_blocked : (c : nest.Nest) (x : top.Top) → (is_none (after_to 3 c x true) && is_none (after_to 5 c x true)) ≡ true
-after_blocked nests.Alone x = refl
-after_blocked nests.Sequence x = refl
-after_blocked nests.Row x = refl
-after_blocked nests.Set x = refl
-
-blocked : (t : Await) (x : top.Top) → (is_none (next_of t 3 x true) && is_none (next_of t 5 x true)) ≡ true
-blocked Nothing x = refl
-blocked (After c) x = after_blocked c x
-blocked (Number c) x = after_blocked c x
-blocked (Units c) x = after_blocked c x
-blocked Value x = refl
-blocked First x = refl
-blocked SetFirst x = refl
-blocked InRow x = refl
-blocked Rows x = refl
-blocked End x = refl
-
-module _ (t : Await) (x : top.Top) (n d : ℕ) (f : Bool) (g : f ≡ leb deepest d) where
-  open_where : (f ≡ true → is_none (next_of t n x true) ≡ true) → is_none (next_of t n x f) ≡ false → d < deepest
-  open_where k h = go (leb deepest d) refl
-    where
-      go : (b : Bool) → leb deepest d ≡ b → d < deepest
-      go true e = absurd (true≢false (sym (k (g ∙ e)) ∙ ap (λ (y : Bool). is_none (next_of t n x y)) (sym (g ∙ e)) ∙ h))
-      go false e = leb-false deepest d e
-
-  pub object_room : is_none (next_of t n x f) ≡ false → n ≡ 3 → d < deepest
-  object_room h e = open_where (λ _. ap (λ (i : ℕ). is_none (next_of t i x true)) e ∙ and_left _ (is_none (next_of t 5 x true)) (blocked t x)) h
-
-  pub group_room : is_none (next_of t n x f) ≡ false → n ≡ 5 → d < deepest
-  group_room h e = open_where (λ _. ap (λ (i : ℕ). is_none (next_of t i x true)) e ∙ and_right (is_none (next_of t 3 x true)) _ (blocked t x)) h
+    law t (kinds_of b) s ∙ ap₂ (λ (y : Option kind.Kind) (g : Bool). to_of (kinds_of b) (sort_code s) (next_of t (sort_code s) y g)) p q ∙ ap (λ (i : ℕ). to_of (kinds_of b) i (next_of t i x f)) (sym e)

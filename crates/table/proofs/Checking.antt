@@ -1,10 +1,11 @@
 -- The walk over a table's rows: one row on, and the two ends.
-use Prim.Native.Nat.{ℕ, ◌+◌, ◌-◌, ◌≤◌, ◌<◌}
-use mathlib.Core.Bool.{Bool, true, false, cond, not, ◌&&◌, ◌||◌, true≢false, false≢true}
+use Prim.Native.Nat.{ℕ, ◌+◌, ◌≤◌, ◌<◌}
+use mathlib.Core.Bool.{Bool, true, false, ◌&&◌, ◌||◌, true≢false, false≢true}
 use mathlib.Core.Path.{◌≡◌, refl, sym, ap, subst, ◌∙◌}
 use mathlib.Core.List.{List, [], ◌∷◌, ◌++◌, append-nil}
 use native.Mathlib.Omega.{arith}
-use borrow.Author.Tests.{ltb-true, not-true, not-false}
+use Rattle.std.specs.Prelude.{Option, Some, None, Ok, Err}
+use borrow.Author.Tests.{ltb-true}
 use lib.Dec.{leb, ltb}
 use lib.ListN.{length, drop, length-append, length-drop, drop_of_length-le}
 use Rattle.rules.specs.Data as rule
@@ -24,42 +25,38 @@ use Rattle.rules.proofs.Tables.Decided.{value_decides, span_decides}
 use Rattle.rows.specs.Rows.{row_of, deepest}
 use Rattle.blocks.specs.Stack.{blocks_of, top_of}
 use Rattle.blocks.specs.declared.Blocks.{Blocks}
-use Rattle.blocks.specs.declared.Top.{Top}
-use Rattle.blocks.specs.declared.Top.TheVariants as tops
+use Rattle.rows.specs.declared.Kind.{Kind}
+use Rattle.rows.specs.declared.Kind.TheVariants as kinds
 use Rattle.rows.specs.Decoding.{Decodes}
 use Rattle.rows.specs.declared.Row.{Row}
-use Rattle.rows.specs.declared.Got.{Got}
-use Rattle.rows.specs.declared.Got.TheVariants as gots
 use Rattle.rows.specs.declared.Nest.TheVariants as nests
 use Rattle.rows.proofs.Decoding.{RowAt, row_there, none_there}
-use Rattle.table.specs.Ordering.{sort_code, await_of, is_none, is_end, kinds_in, kinds_of, opens_after, Nesting, next_of, to_of}
+use Rattle.table.specs.Ordering.{sort_code, await_of, kinds_in, kinds_of, Nesting, next_of, to_of}
 use Rattle.table.specs.Judging.{Judges, proper, improper}
 use Rattle.table.specs.declared.Await.{Await}
-use Rattle.table.specs.declared.Await.TheVariants.{Nothing, After, Number, Units, Value, First, SetFirst, InRow, Rows, End}
-use Rattle.table.specs.declared.Checked.TheVariants.{Proper, Improper}
-use Rattle.table.proofs.Awaited.{opens_none, step_law, object_room, group_room}
+use Rattle.table.specs.declared.Await.TheVariants.{After, Number, Units, Value, First, SetFirst, InRow, Rows, End}
+use Rattle.table.specs.declared.Improper.{Improper}
+use Rattle.table.proofs.Awaited.{opens_none, step_law}
 
 pub both_good : (label : List ℕ) (r : rule.Row) (v s : Bool) → v ≡ value_test r → s ≡ span_test label r → (v && s) ≡ (value_test r && span_test label r)
 both_good label r v s e f = rw (e, f)
 
 -- what the walk keeps up: the rows done are the bytes before the place, and the state and the blocks are the machine's after them
-pub record Walks (label lent : List ℕ) (t : Await) (b : Blocks) (x : Top) (at : ℕ) : Type 0 where
+pub record Walks (label lent : List ℕ) (t : Await) (b : Blocks) (x : (Option Kind)) (at : ℕ) : Type 0 where
   pub done : List rule.Row
   pub split : lent ≡ table done ++ drop at lent
   pub going : Going label done (await_of t) (kinds_of b)
   pub within : at ≤ length lent
   pub room : b.depth ≤ deepest
-  pub some : is_none t ≡ false
   pub seen : x ≡ top_of (blocks_of b)
 
-pub starts : (label lent : List ℕ) (b : Blocks) → blocks_of b ≡ [] → b.depth ≡ 0 → Walks label lent (After nests.Alone) b tops.Outside 0
+pub starts : (label lent : List ℕ) (b : Blocks) → blocks_of b ≡ [] → b.depth ≡ 0 → Walks label lent (After nests.Alone) b None 0
 starts label lent b e d = record {
   done = [];
   split = refl;
   going = subst (Going label [] machine.t_statement) (ap kinds_in (sym e)) (going_start label);
   within = omega arith;
   room = omega arith;
-  some = refl;
   seen = rw e;
 }
 
@@ -67,101 +64,87 @@ module _ (label lent : List ℕ) (l : length label ≤ longest) where
   short : length label < 65536
   short = omega arith
 
-  place : {t : Await} {b : Blocks} {x : Top} {at : ℕ} (w : Walks label lent t b x at) → length (table w.done) ≡ at
+  place : {t : Await} {b : Blocks} {x : (Option Kind)} {at : ℕ} (w : Walks label lent t b x at) → length (table w.done) ≡ at
   place {at = at} w =
       let e : length lent ≡ length (table w.done) + length (drop at lent) = ap length w.split ∙ length-append (table w.done) (drop at lent) in
       omega (arith, length-drop at lent, w.within)
 
   -- the walk stops: no row that is read there is fine, or the rows end early
-  stops : (t : Await) (b : Blocks) (x : Top) (at : ℕ) → Walks label lent t b x at →
+  stops : (t : Await) (b : Blocks) (x : (Option Kind)) (at : ℕ) → Walks label lent t b x at →
       ((r : rule.Row) (s : List ℕ) → decode (drop at lent) ≡ got r s → (t' : machine.Await) (o' : Kinds) → Fine label (await_of t) (kinds_of b) r t' o' → ⊥) →
-      (drop at lent ≡ [] → await_of t ≡ t_end → ⊥) → Judges label lent (Improper at)
+      (drop at lent ≡ [] → await_of t ≡ t_end → ⊥) → Judges label lent (Err (record { 0 = at }))
   stops t b x at w n u =
       improper (is_improper (subst (λ (i : ℕ). Rattle.rules.specs.Proper.Improper label lent i) (place w) (stop_at label short lent w.done (drop at lent) w.split w.going n u)))
 
   some_left : (at : ℕ) → at < length lent → drop at lent ≡ [] → ⊥
   some_left at h e = let q : length (drop at lent) ≡ 0 = ap length e in omega (arith, length-drop at lent)
 
-  pub stops_none : (t : Await) (b : Blocks) (x : Top) (at : ℕ) (g : Got) → Walks label lent t b x at → at < length lent → Decodes lent at g → g ≡ gots.Nothing → Judges label lent (Improper at)
+  pub stops_none : (t : Await) (b : Blocks) (x : (Option Kind)) (at : ℕ) (g : Option (Row × ℕ)) → Walks label lent t b x at → at < length lent → Decodes lent at g → g ≡ None → Judges label lent (Err (record { 0 = at }))
   stops_none t b x at g w h d e = stops t b x at w (λ r s q t' o' f. nothing_got (sym (none_there d e) ∙ q)) (λ q _. some_left at h q)
 
   -- a row that is read is the one that the code found
   the_row : {at next : ℕ} {row : Row} {r : rule.Row} {s : List ℕ} → RowAt lent at row next → decode (drop at lent) ≡ got r s → row_of row ≡ r
   the_row d q = (got_same (sym d.is ∙ q)).0
 
-  module _ (at : ℕ) (g : Got) (row : Row) (next : ℕ) (d : Decodes lent at g) (e : g ≡ gots.Found row next) where
-    pub stops_bad : (t : Await) (b : Blocks) (x : Top) (v : Bool) → Walks label lent t b x at → at < length lent →
-        v ≡ (value_test (row_of row) && span_test label (row_of row)) → not v ≡ true → Judges label lent (Improper at)
+  module _ (at : ℕ) (g : Option (Row × ℕ)) (row : Row) (next : ℕ) (d : Decodes lent at g) (e : g ≡ Some (row, next)) where
+    pub stops_bad : (t : Await) (b : Blocks) (x : (Option Kind)) (v : Bool) → Walks label lent t b x at → at < length lent →
+        v ≡ (value_test (row_of row) && span_test label (row_of row)) → v ≡ false → Judges label lent (Err (record { 0 = at }))
     stops_bad t b x v w h i n =
         stops t b x at w (λ r s q t' o' f.
-        let z : (value_test r && span_test label r) ≡ false = ap (λ (y : rule.Row). value_test y && span_test label y) (sym (the_row (row_there d e) q)) ∙ sym i ∙ not-true v n in
+        let z : (value_test r && span_test label r) ≡ false = ap (λ (y : rule.Row). value_test y && span_test label y) (sym (the_row (row_there d e) q)) ∙ sym i ∙ n in
         false≢true (sym z ∙ and_true ((value_decides r).0 f.value) ((span_decides label r).0 f.holds)))
         (λ q _. some_left at h q)
 
-    pub stops_order : (t u : Await) (b : Blocks) (n : ℕ) (x : Top) (z : Bool) → Walks label lent t b x at → at < length lent →
-        n ≡ sort_code (sort (row_of row)) → u ≡ next_of t n x (leb deepest b.depth) → z ≡ is_none u → z ≡ true → Judges label lent (Improper at)
-    stops_order t u b n x z w h i k j c =
+    pub stops_order : (t : Await) (u : Option Await) (b : Blocks) (n : ℕ) (x : (Option Kind)) → Walks label lent t b x at → at < length lent →
+        n ≡ sort_code (sort (row_of row)) → u ≡ next_of t n x (leb deepest b.depth) → u ≡ None → Judges label lent (Err (record { 0 = at }))
+    stops_order t u b n x w h i k j =
         stops t b x at w (λ r s q t' o' fine.
         let m : n ≡ sort_code (sort r) = i ∙ ap (λ (y : rule.Row). sort_code (sort y)) (the_row (row_there d e) q) in
         none_to (sym (step_law t b (sort r) n x (leb deepest b.depth) m w.seen refl ∙ none) ∙ fine.step))
         (λ q _. some_left at h q)
       where
         none : to_of (kinds_of b) n (next_of t n x (leb deepest b.depth)) ≡ to_none
-        none = ap (λ (y : Bool). cond y to_none (to (await_of (next_of t n x (leb deepest b.depth))) (opens_after n (kinds_of b)))) (ap is_none (sym k) ∙ sym j ∙ c)
+        none = ap (to_of (kinds_of b) n) (sym k ∙ j)
 
   -- the end of the bytes
-  end_of : (t : Await) → is_end t ≡ true → await_of t ≡ t_end
-  end_of Nothing h = refl
-  end_of (After c) h = absurd (false≢true h)
-  end_of (Number c) h = absurd (false≢true h)
-  end_of (Units c) h = absurd (false≢true h)
-  end_of Value h = absurd (false≢true h)
-  end_of First h = absurd (false≢true h)
-  end_of SetFirst h = absurd (false≢true h)
-  end_of InRow h = absurd (false≢true h)
-  end_of Rows h = absurd (false≢true h)
-  end_of End h = refl
-
-  pub ends : (t : Await) (b : Blocks) (x : Top) (at : ℕ) (z : Bool) → Walks label lent t b x at → length lent ≤ at → z ≡ is_end t → z ≡ true → Judges label lent Proper
-  ends t b x at z w h e i =
-      let a : await_of t ≡ t_end = end_of t (sym e ∙ i) in
+  pub ends : (t : Await) (b : Blocks) (x : (Option Kind)) (at : ℕ) → Walks label lent t b x at → length lent ≤ at → t ≡ End → Judges label lent (Ok tt)
+  ends t b x at w h e =
+      let a : await_of t ≡ t_end = ap await_of e in
       let g : Going label w.done t_end (kinds_of b) = subst (λ (x : machine.Await). Going label w.done x (kinds_of b)) a w.going in
       proper w.done (is_proper (w.split ∙ ap (λ (s : List ℕ). table w.done ++ s) (drop_of_length-le lent h) ∙ append-nil (table w.done))
       (going_done label (subst (Going label w.done t_end) (going_end g) g)))
 
-  end_test : (t : Await) → is_none t ≡ false → is_at_end (await_of t) ≡ is_end t
-  end_test Nothing h = absurd (true≢false h)
-  end_test (After nests.Alone) h = refl
-  end_test (After nests.Sequence) h = refl
-  end_test (After nests.Row) h = refl
-  end_test (After nests.Set) h = refl
-  end_test (Number c) h = refl
-  end_test (Units c) h = refl
-  end_test Value h = refl
-  end_test First h = refl
-  end_test SetFirst h = refl
-  end_test InRow h = refl
-  end_test Rows h = refl
-  end_test End h = refl
+  not_end : (t : Await) → (t ≡ End → ⊥) → is_at_end (await_of t) ≡ false
+  not_end (After nests.Alone) n = refl
+  not_end (After nests.Sequence) n = refl
+  not_end (After nests.Row) n = refl
+  not_end (After nests.Set) n = refl
+  not_end (Number c) n = refl
+  not_end (Units c) n = refl
+  not_end Value n = refl
+  not_end First n = refl
+  not_end SetFirst n = refl
+  not_end InRow n = refl
+  not_end Rows n = refl
+  not_end End n = absurd (n refl)
 
-  pub ends_early : (t : Await) (b : Blocks) (x : Top) (at : ℕ) (z : Bool) → Walks label lent t b x at → length lent ≤ at → z ≡ is_end t → z ≡ false → Judges label lent (Improper at)
+  pub ends_early : (t : Await) (b : Blocks) (x : (Option Kind)) (at : ℕ) → Walks label lent t b x at → length lent ≤ at → (t ≡ End → ⊥) → Judges label lent (Err (record { 0 = at }))
   unfolding decode
-  ends_early t b x at z w h e i =
+  ends_early t b x at w h n =
       stops t b x at w (λ r s q t' o' f. nothing_got (sym (ap decode (drop_of_length-le lent h)) ∙ q))
-      (λ _ c. true≢false (sym (ap is_at_end c) ∙ end_test t w.some ∙ sym e ∙ i))
+      (λ _ c. true≢false (sym (ap is_at_end c) ∙ not_end t n))
 
   -- ---- one row on
 
-  module _ (at : ℕ) (g : Got) (row : Row) (next : ℕ) (d : Decodes lent at g) (e : g ≡ gots.Found row next) where
-    pub turn : (t u : Await) (b b' : Blocks) (n : ℕ) (x y : Top) (z v : Bool) → Walks label lent t b x at →
-        v ≡ (value_test (row_of row) && span_test label (row_of row)) → not v ≡ false → n ≡ sort_code (sort (row_of row)) → u ≡ next_of t n x (leb deepest b.depth) → z ≡ is_none u → z ≡ false →
+  module _ (at : ℕ) (g : Option (Row × ℕ)) (row : Row) (next : ℕ) (d : Decodes lent at g) (e : g ≡ Some (row, next)) where
+    pub turn : (t u : Await) (o : Option Await) (b b' : Blocks) (n : ℕ) (x y : (Option Kind)) (v : Bool) → Walks label lent t b x at →
+        v ≡ (value_test (row_of row) && span_test label (row_of row)) → v ≡ true → n ≡ sort_code (sort (row_of row)) → o ≡ next_of t n x (leb deepest b.depth) → o ≡ Some u →
         Nesting n b b' → y ≡ top_of (blocks_of b') → Walks label lent u b' y next
-    turn t u b b' n x y z v w i j f k c h m o =
+    turn t u o b b' n x y v w i j f k h m l =
         let here : RowAt lent at row next = row_there d e in
-        let good : (value_test (row_of row) && span_test label (row_of row)) ≡ true = sym i ∙ not-false v j in
-        let some : is_none u ≡ false = sym c ∙ h in
+        let good : (value_test (row_of row) && span_test label (row_of row)) ≡ true = sym i ∙ j in
         let to_u : to_of (kinds_of b) n (next_of t n x (leb deepest b.depth)) ≡ to (await_of u) (kinds_of b') =
-        ap (to_of (kinds_of b) n) (sym k) ∙ ap (λ (y : Bool). cond y to_none (to (await_of u) (opens_after n (kinds_of b)))) some ∙ ap (to (await_of u)) (sym m.is) in
+        ap (to_of (kinds_of b) n) (sym k ∙ h) ∙ ap (to (await_of u)) (sym m.is) in
         let fine : Fine label (await_of t) (kinds_of b) (row_of row) (await_of u) (kinds_of b') = record {
           value = (value_decides (row_of row)).1 (and_left (value_test (row_of row)) (span_test label (row_of row)) good);
           holds = (span_decides label (row_of row)).1 (and_right (value_test (row_of row)) (span_test label (row_of row)) good);
@@ -173,27 +156,16 @@ module _ (label lent : List ℕ) (l : length label ≤ longest) where
           going = going_on label (row_of row) w.going fine;
           within = here.within;
           room = m.within;
-          some = some;
-          seen = o;
+          seen = l;
         }
 
     -- a row that neither opens nor closes a block
-    pub stays : (t u : Await) (b : Blocks) (n : ℕ) (x : Top) (z v : Bool) → Walks label lent t b x at →
-        v ≡ (value_test (row_of row) && span_test label (row_of row)) → not v ≡ false → n ≡ sort_code (sort (row_of row)) → u ≡ next_of t n x (leb deepest b.depth) → z ≡ is_none u → z ≡ false →
+    pub stays : (t u : Await) (o : Option Await) (b : Blocks) (n : ℕ) (x : (Option Kind)) (v : Bool) → Walks label lent t b x at →
+        v ≡ (value_test (row_of row) && span_test label (row_of row)) → v ≡ true → n ≡ sort_code (sort (row_of row)) → o ≡ next_of t n x (leb deepest b.depth) → o ≡ Some u →
         (ltb n 3 || ltb 6 n) ≡ true → Walks label lent u b x next
-    stays t u b n x z v w i j f k c h l =
-        turn t u b b n x x z v w i j f k c h
+    stays t u o b n x v w i j f k h l =
+        turn t u o b b n x x v w i j f k h
         (opens_none n b (other 3 (omega arith) (omega arith)) (other 5 (omega arith) (omega arith)) (other 4 (omega arith) (omega arith)) (other 6 (omega arith) (omega arith)) w.room) w.seen
       where
         other : (j : ℕ) → 3 ≤ j → j ≤ 6 → n ≡ j → ⊥
         other j p q r = or_case (ltb n 3) (ltb 6 n) ⊥ l (λ y. omega (arith, ltb-true n 3 y)) (λ y. omega (arith, ltb-true 6 n y))
-
-pub nearer : {lent : List ℕ} {at next : ℕ} {g : Got} {row : Row} → Decodes lent at g → g ≡ gots.Found row next → at < length lent → length lent - next < length lent - at
-nearer d e h = let here : RowAt _ _ _ _ = row_there d e in omega (arith, here.further)
-
--- room for a block that opens
-pub opens_room : (label lent : List ℕ) (t u : Await) (b : Blocks) (at n : ℕ) (x : Top) (z : Bool) → Walks label lent t b x at → u ≡ next_of t n x (leb deepest b.depth) →
-    z ≡ is_none u → z ≡ false → (n ≡ 3 → b.depth < deepest) × (n ≡ 5 → b.depth < deepest) × (b.depth ≤ deepest)
-opens_room label lent t u b at n x z w k c h =
-    let s : is_none (next_of t n x (leb deepest b.depth)) ≡ false = ap is_none (sym k) ∙ sym c ∙ h in
-    (object_room t x n b.depth (leb deepest b.depth) refl s, group_room t x n b.depth (leb deepest b.depth) refl s, w.room)

@@ -10,8 +10,8 @@ use Rattle.rules.proofs.Written.Outcome.{same_place}
 use Rattle.blocks.specs.declared.Blocks.{Blocks}
 use Rattle.table.specs.Ordering.{Nesting}
 use Rattle.table.specs.Judging.{Judges, proper, improper, said, verdict_said}
-use Rattle.table.specs.declared.Checked.{Checked}
-use Rattle.table.specs.declared.Checked.TheVariants.{Improper}
+use Rattle.std.specs.Prelude.{Result, Err}
+use Rattle.table.specs.declared.Improper.{Improper}
 
 -- ---- blocks
 
@@ -20,13 +20,13 @@ nested_once x y = x.on ∙ sym y.on
 
 -- ---- the verdict
 
-pub check_once : {label lent : List ℕ} {c c' : Checked} → length label ≤ longest → Judges label lent c → Judges label lent c' → c ≡ c'
+pub check_once : {label lent : List ℕ} {c c' : Result (Unit {0}) Improper} → length label ≤ longest → Judges label lent c → Judges label lent c' → c ≡ c'
 check_once l (proper rs v) (proper qs w) = refl
 check_once {label} {lent} l (proper rs v) (improper w) = absurd (not_both (verdict_once label l lent v w))
 check_once {label} {lent} l (improper v) (proper rs w) = absurd (not_both (verdict_once label l lent w v))
-check_once {label} {lent} l (improper v) (improper w) = ap Improper (same_place (verdict_once label l lent v w))
+check_once {label} {lent} l (improper v) (improper w) = ap (λ (i : ℕ). Err (record { 0 = i })) (same_place (verdict_once label l lent v w))
 
 -- code and place are those of the rules' verdict
-pub check_said : {label lent : List ℕ} {c : Checked} → Judges label lent c → (v : Verdict) × Ruled label lent v × (said c ≡ verdict_said v)
+pub check_said : {label lent : List ℕ} {c : Result (Unit {0}) Improper} → Judges label lent c → (v : Verdict) × Ruled label lent v × (said c ≡ verdict_said v)
 check_said (proper rs v) = (proper_rows rs, v, refl)
-check_said (improper {at} v) = (improper_at at, v, refl)
+check_said (improper {e} v) = (improper_at e.0, v, refl)

@@ -11,16 +11,15 @@ ghost use Rattle.rules.proofs.Machine.Checks.{value_test, span_test};
 ghost use Rattle.rows.specs.Rows.{row_of};
 ghost use Rattle.table.specs.Judging.{Judges};
 
-use blocks::{Top, no_blocks, top_of};
-use order::{is_end, is_none, nested, next, sort_of};
-use rows::{CLOSE_GROUP, DEEPEST, Got, Nest, OPEN_OBJECT, Row, row_at};
+use blocks::{no_blocks, top_of};
+use order::{nested, next, sort_of};
+use rows::{CLOSE_GROUP, DEEPEST, Nest, OPEN_OBJECT, Row, row_at};
 use spans::good_span;
 use values::good_value;
 
-// What is awaited. After a value that stands alone a statement is awaited; Nothing where a row has come that cannot.
+// What is awaited. After a value that stands alone a statement is awaited.
 #[derive(Clone, Copy)]
 pub enum Await {
-    Nothing,
     After(Nest),
     Number(Nest),
     Units(Nest),
@@ -32,12 +31,9 @@ pub enum Await {
     End,
 }
 
-// The verdict on a table: proper, or the place where it stops being so.
+// The place where a table stops being proper.
 #[derive(Clone, Copy)]
-pub enum Checked {
-    Proper,
-    Improper(usize),
-}
+pub struct Improper(pub usize);
 
 // Whether a row's value and span are as they should be; its order is another matter.
 fn good(label: &[u8], row: Row) -> bool
@@ -49,26 +45,26 @@ fn good(label: &[u8], row: Row) -> bool
     v & s
 }
 
-pub fn check(label: &[u8], table: &[u8]) -> Checked
+pub fn check(label: &[u8], table: &[u8]) -> Result<(), Improper>
     requires { length label.now ≤ longest }
     ensures { Judges label.now table.now result }
 {
     let mut t = Await::After(Nest::Alone);
     let mut b = no_blocks();
-    let mut top = Top::Outside;
+    let mut top = None;
     let mut at = 0;
     while at < table.len() {
-        let Got::Found(row, end) = row_at(table, at) else {
-            return Checked::Improper(at);
+        let Some((row, end)) = row_at(table, at) else {
+            return Err(Improper(at));
         };
         if !good(label, row) {
-            return Checked::Improper(at);
+            return Err(Improper(at));
         }
         let n = sort_of(row);
-        t = next(t, n, top, DEEPEST <= b.depth);
-        if is_none(t) {
-            return Checked::Improper(at);
-        }
+        let Some(u) = next(t, n, top, DEEPEST <= b.depth) else {
+            return Err(Improper(at));
+        };
+        t = u;
         at = end;
         // only a row that opens or closes a block is worth a copy of the arrays
         if (n < OPEN_OBJECT) | (CLOSE_GROUP < n) {
@@ -77,8 +73,8 @@ pub fn check(label: &[u8], table: &[u8]) -> Checked
         b = nested(b, n);
         top = top_of(b);
     }
-    if is_end(t) {
-        return Checked::Proper;
+    if let Await::End = t {
+        return Ok(());
     }
-    Checked::Improper(at)
+    Err(Improper(at))
 }

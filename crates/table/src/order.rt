@@ -2,10 +2,10 @@
 ghost use Rattle.std.specs.Prelude.{◌≡◌, ◌<◌, ◌≤◌};
 ghost use Rattle.rules.proofs.Machine.Rows.{unit_sort, sort};
 ghost use Rattle.rows.specs.Rows.{op_of, row_of, deepest};
-ghost use Rattle.table.specs.Ordering.{sort_code, opened_to, closing_to, statement_to, scalar_to, member_to, after_to, value_to, sequences_to, next_of, is_none, is_end, Nesting};
+ghost use Rattle.table.specs.Ordering.{sort_code, opened_to, closing_to, statement_to, scalar_to, member_to, after_to, value_to, sequences_to, next_of, Nesting};
 
 use crate::Await;
-use blocks::{Blocks, Top, pop, push};
+use blocks::{Blocks, pop, push};
 use rows::{
     ATTRIBUTE, CLOSE_GROUP, CLOSE_OBJECT, INTEGER, Kind, LAST, Nest, OPEN_GROUP, OPEN_OBJECT, Op,
     POINTER, Row, SEQUENCE, SEQUENCE_END, SET, SET_END, TEXT, UNIT, close_kind, open_kind,
@@ -48,49 +48,43 @@ pub fn sort_of(row: Row) -> u8
     }
 }
 
-fn opened(full: bool) -> Await
+fn opened(full: bool) -> Option<Await>
     ensures { result ≡ opened_to full }
 {
     if full {
-        return Await::Nothing;
+        return None;
     }
-    Await::After(Nest::Alone)
+    Some(Await::After(Nest::Alone))
 }
 
 // A closing row in its own block, and the last row outside all.
-fn closing(n: u8, top: Top) -> Await
+fn closing(n: u8, top: Option<Kind>) -> Option<Await>
     ensures { result ≡ closing_to n top }
 {
     match top {
-        Top::Outside => {
+        None => {
             if n == LAST {
-                return Await::End;
+                return Some(Await::End);
             }
-            Await::Nothing
+            None
         }
-        Top::Object => {
-            if n == CLOSE_OBJECT {
-                return Await::After(Nest::Alone);
+        Some(kind) => {
+            if n == close_kind(kind) {
+                return Some(Await::After(Nest::Alone));
             }
-            Await::Nothing
-        }
-        Top::Group => {
-            if n == CLOSE_GROUP {
-                return Await::After(Nest::Alone);
-            }
-            Await::Nothing
+            None
         }
     }
 }
 
-fn statement(n: u8, top: Top, full: bool) -> Await
+fn statement(n: u8, top: Option<Kind>, full: bool) -> Option<Await>
     ensures { result ≡ statement_to n top full }
 {
     if n == ATTRIBUTE {
-        return Await::Value;
+        return Some(Await::Value);
     }
     if n == POINTER {
-        return Await::Value;
+        return Some(Await::Value);
     }
     if n == OPEN_OBJECT {
         return opened(full);
@@ -101,30 +95,30 @@ fn statement(n: u8, top: Top, full: bool) -> Await
     closing(n, top)
 }
 
-fn scalar(n: u8, c: Nest) -> Await
+fn scalar(n: u8, c: Nest) -> Option<Await>
     ensures { result ≡ scalar_to n c }
 {
     if n == INTEGER {
-        return Await::Number(c);
+        return Some(Await::Number(c));
     }
     if n == TEXT {
-        return Await::After(c);
+        return Some(Await::After(c));
     }
-    Await::Nothing
+    None
 }
 
 // A scalar, or the row of sort e that leads to t.
-fn member(n: u8, c: Nest, e: u8, t: Await) -> Await
+fn member(n: u8, c: Nest, e: u8, t: Await) -> Option<Await>
     ensures { result ≡ member_to n c e t }
 {
     if n == e {
-        return t;
+        return Some(t);
     }
     scalar(n, c)
 }
 
 // What may follow a value that stands alone or in a group of values.
-fn after(n: u8, c: Nest, top: Top, full: bool) -> Await
+fn after(n: u8, c: Nest, top: Option<Kind>, full: bool) -> Option<Await>
     ensures { result ≡ after_to n c top full }
 {
     match c {
@@ -135,47 +129,46 @@ fn after(n: u8, c: Nest, top: Top, full: bool) -> Await
     }
 }
 
-fn value(n: u8) -> Await
+fn value(n: u8) -> Option<Await>
     ensures { result ≡ value_to n }
 {
     if n == SEQUENCE {
-        return Await::First;
+        return Some(Await::First);
     }
     if n == SET {
-        return Await::SetFirst;
+        return Some(Await::SetFirst);
     }
     scalar(n, Nest::Alone)
 }
 
 // Between the rows of a sequence of sequences.
-fn sequences(n: u8) -> Await
+fn sequences(n: u8) -> Option<Await>
     ensures { result ≡ sequences_to n }
 {
     if n == SEQUENCE {
-        return Await::InRow;
+        return Some(Await::InRow);
     }
     if n == SEQUENCE_END {
-        return Await::After(Nest::Alone);
+        return Some(Await::After(Nest::Alone));
     }
-    Await::Nothing
+    None
 }
 
-// What is awaited after a row of sort n; Nothing where that row cannot come.
-pub fn next(t: Await, n: u8, top: Top, full: bool) -> Await
+// What is awaited after a row of sort n; nothing where that row cannot come.
+pub fn next(t: Await, n: u8, top: Option<Kind>, full: bool) -> Option<Await>
     ensures { result ≡ next_of t n top full }
 {
     match t {
-        Await::Nothing => Await::Nothing,
         Await::After(c) => after(n, c, top, full),
         Await::Number(c) => {
             if n == UNIT {
-                return Await::Units(c);
+                return Some(Await::Units(c));
             }
             after(n, c, top, full)
         }
         Await::Units(c) => {
             if n == FURTHER_UNIT {
-                return Await::Units(c);
+                return Some(Await::Units(c));
             }
             after(n, c, top, full)
         }
@@ -184,41 +177,7 @@ pub fn next(t: Await, n: u8, top: Top, full: bool) -> Await
         Await::SetFirst => member(n, Nest::Set, SET_END, Await::After(Nest::Alone)),
         Await::InRow => scalar(n, Nest::Row),
         Await::Rows => sequences(n),
-        Await::End => Await::Nothing,
-    }
-}
-
-pub fn is_none(t: Await) -> bool
-    ensures { result ≡ is_none t }
-{
-    match t {
-        Await::Nothing => true,
-        Await::After(_) => false,
-        Await::Number(_) => false,
-        Await::Units(_) => false,
-        Await::Value => false,
-        Await::First => false,
-        Await::SetFirst => false,
-        Await::InRow => false,
-        Await::Rows => false,
-        Await::End => false,
-    }
-}
-
-pub fn is_end(t: Await) -> bool
-    ensures { result ≡ is_end t }
-{
-    match t {
-        Await::Nothing => false,
-        Await::After(_) => false,
-        Await::Number(_) => false,
-        Await::Units(_) => false,
-        Await::Value => false,
-        Await::First => false,
-        Await::SetFirst => false,
-        Await::InRow => false,
-        Await::Rows => false,
-        Await::End => true,
+        Await::End => None,
     }
 }
 

@@ -1,9 +1,8 @@
 // The span of a row: inside the label, and its bytes a name, a text or a symbol.
 ghost use Rattle.std.specs.Prelude.{◌≡◌, ◌≤◌, length};
-ghost use Rattle.rules.specs.Values.{each};
 ghost use Rattle.rules.specs.Written.{is_name};
 ghost use Rattle.rules.specs.Reading.{longest};
-ghost use Rattle.rules.proofs.Machine.Checks.{is_text, symbol_byte, is_symbol, held_test, span_test};
+ghost use Rattle.rules.proofs.Machine.Checks.{is_text, is_symbol, held_test, span_test};
 ghost use Rattle.classes.specs.Places.{as_span};
 ghost use Rattle.rows.specs.Rows.{row_of};
 
@@ -16,34 +15,14 @@ const LONGEST_SYMBOL: usize = 255;
 fn text_body(w: &[u8]) -> bool
     ensures { result ≡ is_text w.now }
 {
-    let mut i = 0;
-    while i < w.len() {
-        if !in_text(w[i]) {
-            return false;
-        }
-        i += 1;
-    }
-    true
-}
-
-fn symbol_bytes(w: &[u8]) -> bool
-    ensures { result ≡ each symbol_byte w.now }
-{
-    let mut i = 0;
-    while i < w.len() {
-        if !in_symbol(w[i]) {
-            return false;
-        }
-        i += 1;
-    }
-    true
+    w.iter().all(|b| in_text(*b))
 }
 
 fn symbol_body(w: &[u8]) -> bool
     ensures { result ≡ is_symbol w.now }
 {
     let n = w.len();
-    let all = symbol_bytes(w);
+    let all = w.iter().all(|b| in_symbol(*b));
     all & ((n >= 1) & (n <= LONGEST_SYMBOL))
 }
 
@@ -51,37 +30,19 @@ fn name_held(label: &[u8], a: usize, b: usize) -> bool
     requires { length label.now ≤ longest }
     ensures { result ≡ held_test is_name label.now (as_span a b) }
 {
-    if b < a {
-        return false;
-    }
-    if label.len() < b {
-        return false;
-    }
-    is_name(&label[a..b])
+    label.get(a..b).is_some_and(|w| is_name(w))
 }
 
 fn text_held(label: &[u8], a: usize, b: usize) -> bool
     ensures { result ≡ held_test is_text label.now (as_span a b) }
 {
-    if b < a {
-        return false;
-    }
-    if label.len() < b {
-        return false;
-    }
-    text_body(&label[a..b])
+    label.get(a..b).is_some_and(|w| text_body(w))
 }
 
 fn symbol_held(label: &[u8], a: usize, b: usize) -> bool
     ensures { result ≡ held_test is_symbol label.now (as_span a b) }
 {
-    if b < a {
-        return false;
-    }
-    if label.len() < b {
-        return false;
-    }
-    symbol_body(&label[a..b])
+    label.get(a..b).is_some_and(|w| symbol_body(w))
 }
 
 pub fn good_span(label: &[u8], row: Row) -> bool
@@ -92,17 +53,10 @@ pub fn good_span(label: &[u8], row: Row) -> bool
         Row::Attribute(a, b) => name_held(label, a, b),
         Row::Pointer(a, b) => name_held(label, a, b),
         Row::Open(_, a, b) => name_held(label, a, b),
-        Row::Close(_) => true,
-        Row::Integer(_, _) => true,
-        Row::Float(_) => true,
-        Row::Time(_) => true,
         Row::Text(a, b) => text_held(label, a, b),
         Row::Symbol(a, b) => symbol_held(label, a, b),
         Row::Unit(_, a, b, _, _) => name_held(label, a, b),
-        Row::Sequence => true,
-        Row::SequenceEnd => true,
-        Row::Set => true,
-        Row::SetEnd => true,
         Row::Last(n) => n <= label.len(),
+        _ => true,
     }
 }

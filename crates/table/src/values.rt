@@ -85,20 +85,10 @@ pub fn good_value(row: Row) -> bool
     ensures { result ≡ value_test (row_of row) }
 {
     match row {
-        Row::Attribute(_, _) => true,
-        Row::Pointer(_, _) => true,
-        Row::Open(_, _, _) => true,
-        Row::Close(_) => true,
         Row::Integer(m, v) => within(m, v, PAST_INTEGER),
         Row::Float(x) => real_held(x),
         Row::Time(x) => moment_held(x),
-        Row::Text(_, _) => true,
-        Row::Symbol(_, _) => true,
         Row::Unit(_, _, _, m, v) => within(m, v, PAST_EXPONENT),
-        Row::Sequence => true,
-        Row::SequenceEnd => true,
-        Row::Set => true,
-        Row::SetEnd => true,
-        Row::Last(_) => true,
+        _ => true,
     }
 }

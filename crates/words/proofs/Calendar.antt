@@ -17,9 +17,8 @@ use Rattle.forms.specs.declared.Span.{Span}
 use Rattle.forms.specs.declared.Date.{Date}
 use Rattle.forms.specs.declared.Date.TheVariants.{InYear, InMonth}
 use Rattle.forms.specs.Forms.{on, date_of}
-use Rattle.words.specs.declared.days.InCalendar.{InCalendar}
-use Rattle.words.specs.declared.days.InCalendar.TheVariants.{Missing, On}
-use Rattle.words.specs.Days.{months, length_in, total, days_before, Before, day_if_any, YearDay, MonthDay, year_of}
+use Rattle.std.specs.Prelude.{Some, None}
+use Rattle.words.specs.Days.{months, length_in, total, days_before, Before, InCalendar, day_if_any, YearDay, MonthDay, year_of}
 
 -- of a month that the test does not leave out
 unless : (a b : Bool) → (a || b) ≡ true → a ≡ false → b ≡ true
@@ -136,13 +135,13 @@ is_day y n m a h k b l f =
     ∙ rw (q, e)
 
 module _ (y n : ℕ) where
-  pub no_year : y ≡ 0 → YearDay y n Missing
+  pub no_year : y ≡ 0 → YearDay y n None
   no_year h = record { day = λ k e. rw h }
 
-  pub no_count : n ≡ 0 → YearDay y n Missing
+  pub no_count : n ≡ 0 → YearDay y n None
   no_count h = record { day = λ k e. let q : k ≡ 0 = omega arith in rw (q, and-false (leb 1 y)) }
 
-  pub year_end : (d : ℕ) → (y ≡ 0 → ⊥) → (n ≡ 0 → ⊥) → Before y 12 d → d + 31 < n → YearDay y n Missing
+  pub year_end : (d : ℕ) → (y ≡ 0 → ⊥) → (n ≡ 0 → ⊥) → Before y 12 d → d + 31 < n → YearDay y n None
   unfolding days_before
   year_end d z x b h = record {
     day = λ k e.
@@ -151,7 +150,7 @@ module _ (y n : ℕ) where
   }
 
   counted : (m a : ℕ) → (y ≡ 0 → ⊥) → (n ≡ 0 → ⊥) → n ≤ 372 → 1 ≤ m → m ≤ 12 → Before y m a → a < n → n ≤ a + month_length y m →
-      YearDay y n (On (record { year = y; month = m; day = n - a }))
+      YearDay y n (Some (record { year = y; month = m; day = n - a }))
   counted m a z x u h k b l f = record {
     day = λ j e.
         let q : j ≡ n = omega arith in
@@ -159,7 +158,7 @@ module _ (y n : ℕ) where
   }
 
   pub this_month : (d a l : ℕ) → (y ≡ 0 → ⊥) → (n ≡ 0 → ⊥) → Before y 12 d → n ≤ d + 31 → Before y ((n - 1) / 31 + 1) a → l ≡ month_length y ((n - 1) / 31 + 1) → n ≤ a + l →
-      YearDay y n (On (record { year = y; month = (n - 1) / 31 + 1; day = n - a }))
+      YearDay y n (Some (record { year = y; month = (n - 1) / 31 + 1; day = n - a }))
   this_month d a l z x b h c e f = counted ((n - 1) / 31 + 1) a z x (omega (arith, b.most)) (omega arith) (omega (arith, b.most)) c (omega (arith, c.most)) (omega arith)
 
   not_last : (d a l m : ℕ) → Before y 12 d → n ≤ d + 31 → m ≤ 12 → Before y m a → l ≡ month_length y m → a + l < n → m < 12
@@ -174,7 +173,7 @@ module _ (y n : ℕ) where
           absurd (omega (arith, b.is))
 
   pub next_month : (d a l : ℕ) → (y ≡ 0 → ⊥) → (n ≡ 0 → ⊥) → Before y 12 d → n ≤ d + 31 → Before y ((n - 1) / 31 + 1) a → l ≡ month_length y ((n - 1) / 31 + 1) → a + l < n →
-      YearDay y n (On (record { year = y; month = (n - 1) / 31 + 1 + 1; day = n - (a + l) }))
+      YearDay y n (Some (record { year = y; month = (n - 1) / 31 + 1 + 1; day = n - (a + l) }))
   unfolding days_before
   next_month d a l z x u h c e f =
       let k : (n - 1) / 31 < 11 = omega (arith, not_last d a l ((n - 1) / 31 + 1) u h (omega (arith, u.most)) c e f) in
@@ -192,26 +191,26 @@ module _ (y n : ℕ) where
 -- ---- a month and a day of it
 
 module _ (y m d : ℕ) where
-  pub month_no_year : y ≡ 0 → MonthDay y m d Missing
+  pub month_no_year : y ≡ 0 → MonthDay y m d None
   month_no_year h = record { day = λ j k e f. rw h }
 
-  pub no_month : m ≡ 0 → MonthDay y m d Missing
+  pub no_month : m ≡ 0 → MonthDay y m d None
   no_month h = record { day = λ j k e f. let q : j ≡ 0 = omega arith in rw (q, and-false (leb 1 y)) }
 
-  pub late_month : 12 < m → MonthDay y m d Missing
+  pub late_month : 12 < m → MonthDay y m d None
   late_month h = record { day = λ j k e f. rw (lt-leb j 12 (omega arith), and-false (leb 1 j), and-false (leb 1 y)) }
 
-  pub no_day : d ≡ 0 → MonthDay y m d Missing
+  pub no_day : d ≡ 0 → MonthDay y m d None
   no_day h = record { day = λ j k e f. let q : k ≡ 0 = omega arith in rw (q, and-false (leb 1 j && leb j 12), and-false (leb 1 y)) }
 
-  pub late_day : (l : ℕ) → m ≤ 12 → l ≡ month_length y m → l < d → MonthDay y m d Missing
+  pub late_day : (l : ℕ) → m ≤ 12 → l ≡ month_length y m → l < d → MonthDay y m d None
   late_day l h q g = record {
     day = λ j k e f.
         let x : j ≡ m = omega arith in
         rw (x, lt-leb k (month_length y m) (omega arith), and-false (leb 1 k), and-false (leb 1 m && leb m 12), and-false (leb 1 y));
   }
 
-  pub day_found : (l : ℕ) → (y ≡ 0 → ⊥) → (m ≡ 0 → ⊥) → m ≤ 12 → (d ≡ 0 → ⊥) → l ≡ month_length y m → l ≤ 31 → d ≤ l → MonthDay y m d (On (record { year = y; month = m; day = d }))
+  pub day_found : (l : ℕ) → (y ≡ 0 → ⊥) → (m ≡ 0 → ⊥) → m ≤ 12 → (d ≡ 0 → ⊥) → l ≡ month_length y m → l ≤ 31 → d ≤ l → MonthDay y m d (Some (record { year = y; month = m; day = d }))
   day_found l z x h c q s g = record {
     day = λ j k e f.
         let u : j ≡ m = omega arith in

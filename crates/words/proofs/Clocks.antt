@@ -21,14 +21,15 @@ use Rattle.forms.specs.declared.Zone.{Zone}
 use Rattle.forms.specs.declared.Zone.TheVariants.{NoZone, Utc, Offset}
 use Rattle.forms.specs.Forms.{on, date_of, zone_of, clock_of, time_of}
 use Rattle.words.specs.declared.days.Day as code
-use Rattle.words.specs.declared.days.InCalendar.{InCalendar}
-use Rattle.words.specs.declared.days.InCalendar.TheVariants.{Missing, On}
+use Rattle.std.specs.Prelude.{Option, Some, None, Ok, Err}
+use Rattle.words.proofs.Digits.{num_or, none_some}
 use Rattle.words.specs.declared.Moment as code-moment
 use Rattle.words.specs.declared.Value.{Value}
-use Rattle.words.specs.declared.Value.TheVariants.{Time, Past}
-use Rattle.words.specs.Says.{Worth}
+use Rattle.words.specs.declared.Value.TheVariants.{Time}
+use Rattle.words.specs.declared.Unfit.TheVariants.{PastLimit}
+use Rattle.words.specs.Says.{Answer, Worth}
 use Rattle.words.specs.Parts.{Significant}
-use Rattle.words.specs.Days.{day_is, day_if_any, year_of}
+use Rattle.words.specs.Days.{day_is, InCalendar, day_if_any, year_of}
 use Rattle.words.specs.Times.{nanos, nanos_of, with_offset, InZone, Timed, InDigits}
 use Rattle.rules.proofs.Tables.ElementLimits.{onto_bound}
 use Rattle.rules.proofs.Tables.Numbers.{pow_positive}
@@ -84,7 +85,7 @@ nanos_bound ds h l =
     let z : 0 < 10 ^ (9 - length (significant ds)) = pow_positive 10 (9 - length (significant ds)) (omega arith) in
     rw p at (mul-lt-mul_of_pos_right {m = number (significant ds)} {n = 10 ^ length (significant ds)} {k = 10 ^ (9 - length (significant ds))} a z)
 
-pub too_many : (ds : List ℕ) (k : ℕ) → Significant ds k → 9 < k → 1000000000 ≡ nanos_of ds
+pub too_many : (ds : List ℕ) (k : ℕ) → Significant ds k → 9 < k → None ≡ nanos_of ds
 unfolding nanos_of
 too_many ds k s h =
     let e : length (significant ds) ≡ k = ap length s.is ∙ length-take-le k ds s.within in
@@ -95,89 +96,99 @@ product_fits n t s e h =
     let p : n * t ≤ 1000000000000000000 = mul-le-mul {n₁ = n} {m₁ = t} {n₂ = 1000000000} {m₂ = 1000000000} (omega arith) h in
     omega arith
 
-pub nanos_are : (ds : List ℕ) (k n t : ℕ) → All digit ds → Significant ds k → k ≤ 9 → n ≡ min 1000000000 (onto 0 (take (k - 0) ds)) → t ≡ 10 ^ (9 - k) → n * t ≡ nanos_of ds
-unfolding nanos_of
-nanos_are ds k n t a s h e f =
-    let z : k - 0 ≡ k = omega arith in
-    let l : length (significant ds) ≡ k = ap length s.is ∙ length-take-le k ds s.within in
-    let b : number (significant ds) < 10 ^ length (significant ds) = number_bound (significant_all ds a) in
-    let q : onto 0 (take (k - 0) ds) ≡ number (significant ds) = rw z (ap number (sym s.is)) in
-    let p : 10 ^ length (significant ds) ≤ 1000000000 = pow-le-pow_right {n = 10} (omega arith) {i = length (significant ds)} {j = 9} (omega arith) in
-    let x : n ≡ number (significant ds) = omega arith in
-    let y : t ≡ 10 ^ (9 - length (significant ds)) = f ∙ ap (λ (i : ℕ). 10 ^ (9 - i)) (sym l) in
-    rw (le-leb (length (significant ds)) 9 (omega arith), x, y)
+module _ (ds : List ℕ) (k n t : ℕ) (a : All digit ds) (s : Significant ds k) (h : k ≤ 9) (e : n ≡ min 1000000000 (onto 0 (take (k - 0) ds))) (f : t ≡ 10 ^ (9 - k)) where
+  few_digits : length (significant ds) ≤ 9
+  few_digits = omega (arith, ap length s.is ∙ length-take-le k ds s.within)
+
+  product_is : n * t ≡ nanos ds
+  product_is =
+      let z : k - 0 ≡ k = omega arith in
+      let l : length (significant ds) ≡ k = ap length s.is ∙ length-take-le k ds s.within in
+      let b : number (significant ds) < 10 ^ length (significant ds) = number_bound (significant_all ds a) in
+      let q : onto 0 (take (k - 0) ds) ≡ number (significant ds) = rw z (ap number (sym s.is)) in
+      let p : 10 ^ length (significant ds) ≤ 1000000000 = pow-le-pow_right {n = 10} (omega arith) {i = length (significant ds)} {j = 9} few_digits in
+      let x : n ≡ number (significant ds) = omega arith in
+      let y : t ≡ 10 ^ (9 - length (significant ds)) = f ∙ ap (λ (i : ℕ). 10 ^ (9 - i)) (sym l) in
+      rw (x, y)
+
+  pub nanos_fit : n * t < 4294967296
+  nanos_fit = omega (arith, product_is, nanos_bound ds a few_digits)
+
+  pub nanos_are : Some (n * t) ≡ nanos_of ds
+  unfolding nanos_of
+  nanos_are = rw (le-leb (length (significant ds)) 9 few_digits, product_is)
 
 -- ---- the zone
 
 module _ (x : code-moment.Moment) (west : Bool) (h m : ℕ) where
-  pub zone_hour : (a : ℕ) → a ≡ min 10000 h → 12 < a → InZone x (signed_zone west h m) Past
+  pub zone_hour : (a : ℕ) → a ≡ min 10000 h → 12 < a → InZone x (signed_zone west h m) (Err PastLimit)
   zone_hour a e k = record { worth = λ w off. rw (lt-leb h 12 (omega arith)) }
 
-  pub zone_minute : (b : ℕ) → b ≡ min 10000 m → 59 < b → InZone x (signed_zone west h m) Past
+  pub zone_minute : (b : ℕ) → b ≡ min 10000 m → 59 < b → InZone x (signed_zone west h m) (Err PastLimit)
   zone_minute b e k = record { worth = λ w off. rw (lt-leb m 59 (omega arith), and-false (leb h 12)) }
 
   pub zone_kept_lem : (a b : ℕ) (r : Value) → a ≡ min 10000 h → b ≡ min 10000 m → a ≤ 12 → b ≤ 59 → r ≡ Time (with_offset x (west && not (eqb (a * 60 + b) 0)) (a * 60 + b) 2) →
-      InZone x (signed_zone west h m) r
+      InZone x (signed_zone west h m) (Ok r)
   zone_kept_lem a b r e f k l q =
       let p : h ≡ a = omega arith in
       let o : m ≡ b = omega arith in
       record { worth = λ w off. rw (q, p, o, le-leb a 12 k, le-leb b 59 l) }
 
-module _ (x : code-moment.Moment) (w : List ℕ) (z : Zone) (r : Value) where
-  pub no_zone_given : z ≡ NoZone → r ≡ Time (with_offset x false 0 0) → InZone x (zone_of w z) r
-  no_zone_given e q = record { worth = λ v off. rw (q, e) }
+module _ (x : code-moment.Moment) (w : List ℕ) (z : Zone) where
+  pub no_zone_given : (r : Value) → z ≡ NoZone → r ≡ Time (with_offset x false 0 0) → InZone x (zone_of w z) (Ok r)
+  no_zone_given r e q = record { worth = λ v off. rw (q, e) }
 
-  pub z_given : z ≡ Utc → r ≡ Time (with_offset x false 0 1) → InZone x (zone_of w z) r
-  z_given e q = record { worth = λ v off. rw (q, e) }
+  pub z_given : (r : Value) → z ≡ Utc → r ≡ Time (with_offset x false 0 1) → InZone x (zone_of w z) (Ok r)
+  z_given r e q = record { worth = λ v off. rw (q, e) }
 
-  pub offset_given : (west : Bool) (h m : Span) → z ≡ Offset west h m → InZone x (signed_zone west (number (on w h)) (number (on w m))) r → InZone x (zone_of w z) r
-  offset_given west h m e i = rw e i
+  pub offset_given : (r : Answer) (west : Bool) (h m : Span) → z ≡ Offset west h m → InZone x (signed_zone west (number (on w h)) (number (on w m))) r → InZone x (zone_of w z) r
+  offset_given r west h m e i = rw e i
 
 -- ---- the time
 
 pub digits_lent : (s ds : List ℕ) → All digit s → ds ≡ s → All digit ds
 digits_lent s ds a e = rw e a
 
-few : (ds : List ℕ) (n : ℕ) → n ≡ nanos_of ds → n ≤ 999999999 → (leb (length (significant ds)) 9 ≡ true) × (nanos ds ≡ n)
+few : (ds : List ℕ) (n : ℕ) → Some n ≡ nanos_of ds → (leb (length (significant ds)) 9 ≡ true) × (nanos ds ≡ n)
 unfolding nanos_of
-few ds n e h = go (leb (length (significant ds)) 9) e
+few ds n e = go (leb (length (significant ds)) 9) e
   where
-    go : (t : Bool) → n ≡ cond t (nanos ds) 1000000000 → (t ≡ true) × (nanos ds ≡ n)
-    go true f = (refl, sym f)
-    go false f = absurd (omega arith)
+    go : (t : Bool) → Some n ≡ cond t (Some (nanos ds)) None → (t ≡ true) × (nanos ds ≡ n)
+    go true f = (refl, ap (num_or 0) (sym f))
+    go false f = absurd (none_some (sym f))
 
-many : (ds : List ℕ) (n : ℕ) → All digit ds → n ≡ nanos_of ds → 999999999 < n → leb (length (significant ds)) 9 ≡ false
+many : (ds : List ℕ) → None ≡ nanos_of ds → leb (length (significant ds)) 9 ≡ false
 unfolding nanos_of
-many ds n a e h = go (leb (length (significant ds)) 9) refl e
+many ds e = go (leb (length (significant ds)) 9) e
   where
-    go : (t : Bool) → leb (length (significant ds)) 9 ≡ t → n ≡ cond t (nanos ds) 1000000000 → t ≡ false
-    go false q f = refl
-    go true q f = absurd (omega (arith, nanos_bound ds a (leb-true (length (significant ds)) 9 q)))
+    go : (t : Bool) → None ≡ cond t (Some (nanos ds)) None → t ≡ false
+    go false f = refl
+    go true f = absurd (none_some f)
 
 module _ (parts : ℕ) (d : Day) (w : List ℕ) (c : Clock) (z : ZoneR) where
-  pub late_hour : (h : ℕ) → h ≡ min 10000 (number (on w c.hour)) → 23 < h → Timed parts d (clock_of w c z) Past
+  pub late_hour : (h : ℕ) → h ≡ min 10000 (number (on w c.hour)) → 23 < h → Timed parts d (clock_of w c z) (Err PastLimit)
   late_hour h e k = record { worth = λ v off. rw (le-ltb (number (on w c.hour)) 24 (omega arith)) }
 
-  pub late_minute : (m : ℕ) → m ≡ min 10000 (number (on w c.minute)) → 59 < m → Timed parts d (clock_of w c z) Past
+  pub late_minute : (m : ℕ) → m ≡ min 10000 (number (on w c.minute)) → 59 < m → Timed parts d (clock_of w c z) (Err PastLimit)
   late_minute m e k = record { worth = λ v off. rw (le-ltb (number (on w c.minute)) 60 (omega arith), and-false (ltb (number (on w c.hour)) 24)) }
 
-  pub late_second : (s : ℕ) → s ≡ min 10000 (number (on w c.second)) → 59 < s → Timed parts d (clock_of w c z) Past
+  pub late_second : (s : ℕ) → s ≡ min 10000 (number (on w c.second)) → 59 < s → Timed parts d (clock_of w c z) (Err PastLimit)
   late_second s e k = record {
     worth = λ v off.
         rw (le-ltb (number (on w c.second)) 60 (omega arith), and-false (ltb (number (on w c.minute)) 60), and-false (ltb (number (on w c.hour)) 24));
   }
 
-  pub many_decimals : (n : ℕ) (ds : List ℕ) → All digit (on w c.decimals) → ds ≡ on w c.decimals → n ≡ nanos_of ds → 999999999 < n → Timed parts d (clock_of w c z) Past
-  many_decimals n ds a q e k = record {
+  pub many_decimals : (o : Option ℕ) (ds : List ℕ) → ds ≡ on w c.decimals → o ≡ nanos_of ds → o ≡ None → Timed parts d (clock_of w c z) (Err PastLimit)
+  many_decimals o ds q e k = record {
     worth = λ v off.
-        rw (many (on w c.decimals) n a (e ∙ ap nanos_of q) k, and-false (ltb (number (on w c.second)) 60), and-false (ltb (number (on w c.minute)) 60), and-false (ltb (number (on w c.hour)) 24));
+        rw (many (on w c.decimals) (sym k ∙ e ∙ ap nanos_of q), and-false (ltb (number (on w c.second)) 60), and-false (ltb (number (on w c.minute)) 60), and-false (ltb (number (on w c.hour)) 24));
   }
 
-  pub time_kept_lem : {r : Value} (h m s n : ℕ) (ds : List ℕ) → h ≡ min 10000 (number (on w c.hour)) → m ≡ min 10000 (number (on w c.minute)) → s ≡ min 10000 (number (on w c.second)) →
-      ds ≡ on w c.decimals → n ≡ nanos_of ds → h ≤ 23 → m ≤ 59 → s ≤ 59 → n ≤ 999999999 →
+  pub time_kept_lem : {r : Answer} (h m s n : ℕ) (o : Option ℕ) (ds : List ℕ) → h ≡ min 10000 (number (on w c.hour)) → m ≡ min 10000 (number (on w c.minute)) → s ≡ min 10000 (number (on w c.second)) →
+      ds ≡ on w c.decimals → o ≡ nanos_of ds → o ≡ Some n → h ≤ 23 → m ≤ 59 → s ≤ 59 →
       InZone (record { parts = parts; year = d.year; month = d.month; day = d.day; hour = h; minute = m; second = s; nanoseconds = n; west = false; offset = 0; mark = 0 }) z r → Timed parts d (clock_of w c z) r
-  time_kept_lem h m s n ds eh em es q en kh km ks kn v =
-      let f = few (on w c.decimals) n (en ∙ ap nanos_of q) kn in
+  time_kept_lem h m s n o ds eh em es q en so kh km ks v =
+      let f = few (on w c.decimals) n (sym so ∙ en ∙ ap nanos_of q) in
       let a : number (on w c.hour) ≡ h = omega (arith, eh, kh) in
       let b : number (on w c.minute) ≡ m = omega (arith, em, km) in
       let x : number (on w c.second) ≡ s = omega (arith, es, ks) in
@@ -186,10 +197,10 @@ module _ (parts : ℕ) (d : Day) (w : List ℕ) (c : Clock) (z : ZoneR) where
 -- ---- with a date or without
 
 module _ (w : List ℕ) (date : Date) (f : InCalendar) where
-  pub no_such_day : day_of (date_of w date) ≡ day_if_any f → f ≡ Missing → Worth (a_date (date_of w date)) Past
+  pub no_such_day : day_of (date_of w date) ≡ day_if_any f → f ≡ None → Worth (a_date (date_of w date)) (Err PastLimit)
   no_such_day e q = record { worth = λ v off. rw (e, q) }
 
-  pub such_day : (day : code.Day) → day_of (date_of w date) ≡ day_if_any f → f ≡ On day → Worth (a_date (date_of w date)) (Time (record {
+  pub such_day : (day : code.Day) → day_of (date_of w date) ≡ day_if_any f → f ≡ Some day → Worth (a_date (date_of w date)) (Ok (Time (record {
     parts = 1;
     year = day.year;
     month = day.month;
@@ -201,13 +212,13 @@ module _ (w : List ℕ) (date : Date) (f : InCalendar) where
     west = false;
     offset = 0;
     mark = 0;
-  }))
+  })))
   such_day day e q = record { worth = λ v off. rw (e, q) }
 
-  pub no_day_time : (t : TimeR) → day_of (date_of w date) ≡ day_if_any f → f ≡ Missing → Worth (a_date_time (date_of w date) t) Past
+  pub no_day_time : (t : TimeR) → day_of (date_of w date) ≡ day_if_any f → f ≡ None → Worth (a_date_time (date_of w date) t) (Err PastLimit)
   no_day_time t e q = record { worth = λ v off. rw (e, q) }
 
-  pub day_time : {r : Value} (t : TimeR) (day : code.Day) → day_of (date_of w date) ≡ day_if_any f → f ≡ On day → Timed 3 (day_is day) t r → Worth (a_date_time (date_of w date) t) r
+  pub day_time : {r : Answer} (t : TimeR) (day : code.Day) → day_of (date_of w date) ≡ day_if_any f → f ≡ Some day → Timed 3 (day_is day) t r → Worth (a_date_time (date_of w date) t) r
   day_time t day e q v = record { worth = λ u off. rw (e, q) (v.worth u off) }
 
 module _ (w : List ℕ) (stamp : Stamp) (c : Clock) (z : ZoneR) where
@@ -223,8 +234,8 @@ module _ (w : List ℕ) (stamp : Stamp) (c : Clock) (z : ZoneR) where
   pub dated_digits : (date : Date) → InDigits (time_of w stamp c z) → stamp ≡ Dated date → All digit (on w c.decimals)
   dated_digits date k q = (both_in_digits date k q).1
 
-  pub undated : {r : Value} → stamp ≡ Undated → Timed 2 absent_day (clock_of w c z) r → Worth (time_of w stamp c z) r
+  pub undated : {r : Answer} → stamp ≡ Undated → Timed 2 absent_day (clock_of w c z) r → Worth (time_of w stamp c z) r
   undated q v = rw q (record { worth = v.worth })
 
-  pub with_date : {r : Value} (date : Date) → stamp ≡ Dated date → Worth (a_date_time (date_of w date) (clock_of w c z)) r → Worth (time_of w stamp c z) r
+  pub with_date : {r : Answer} (date : Date) → stamp ≡ Dated date → Worth (a_date_time (date_of w date) (clock_of w c z)) r → Worth (time_of w stamp c z) r
   with_date date q v = rw q v

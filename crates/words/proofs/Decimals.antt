@@ -1,5 +1,5 @@
 -- Reals: the loop that passes trailing zeros, the limits, and the power with an exponent that is held to a cap.
-use Prim.Native.Nat.{ℕ, suc, ◌+◌, ◌-◌, ◌^◌, ◌≤◌, ◌<◌, min}
+use Prim.Native.Nat.{ℕ, zero, suc, ◌+◌, ◌-◌, ◌^◌, ◌≤◌, ◌<◌, min}
 use mathlib.Core.Bool.{Bool, true, false, cond, not, ◌&&◌, and-false}
 use mathlib.Core.Option.{none, some}
 use mathlib.Core.Path.{◌≡◌, refl, sym, ap, ◌∙◌}
@@ -13,9 +13,10 @@ use lib.Seq.{take_all, take-suc, length-take-le}
 use Rattle.rules.specs.Data.{Whole}
 use Rattle.rules.specs.Values.{onto, number, signed, each, significant, moved, real_kept, a_decimal}
 use Rattle.rules.proofs.Words.Worth.{nought, zeros_behind, digit_behind, onto_append, all_zeros}
-use Rattle.words.specs.declared.Value.{Value}
-use Rattle.words.specs.declared.Value.TheVariants.{Float, Past}
-use Rattle.words.specs.Says.{Worth}
+use Rattle.std.specs.Prelude.{Ok, Err}
+use Rattle.words.specs.declared.Value.TheVariants.{Float}
+use Rattle.words.specs.declared.Unfit.TheVariants.{PastLimit}
+use Rattle.words.specs.Says.{Answer, Worth}
 use Rattle.words.specs.Parts.{Significant, RealIs, Finished, Scaled}
 use Rattle.words.proofs.Digits.{grows}
 
@@ -57,28 +58,47 @@ trim_end s j t h =
     let q : j ≡ 0 = omega arith in
     record { within = omega arith; is = rw q at t.same }
 
+-- all from place j on are zeros
+module _ (s : List ℕ) (j : ℕ) (h : j ≤ length s) (z : (k : ℕ) → j ≤ k → k < length s → get_or s k 0 ≡ 48) where
+  trimmed : (n : ℕ) → n ≤ length s - j → Trimming s (length s - n)
+  trimmed zero l = let q : length s - 0 ≡ length s = omega arith in rw q (trim_start s)
+  trimmed (suc n) l =
+      let q : length s - suc n ≡ length s - n - 1 = omega arith in
+      rw q (trim_turn s (length s - n) (trimmed n (omega arith)) (omega arith) (z (length s - n - 1) (omega arith) (omega arith)))
+
+  trim_to : Trimming s j
+  trim_to = let q : length s - (length s - j) ≡ j = omega arith in rw q at (trimmed (length s - j) (le_refl (length s - j)))
+
+pub last_digit : (s : List ℕ) (i : ℕ) → i < length s → ((k : ℕ) → i + 1 ≤ k → k < length s → get_or s k 0 ≡ 48) → (get_or s i 0 ≡ 48 → ⊥) → Significant s (i + 1)
+last_digit s i h z n =
+    let q : i + 1 - 1 ≡ i = omega arith in
+    trim_stop s (i + 1) (trim_to s (i + 1) (omega arith) z) (omega arith) (λ e. n (sym (ap (λ (k : ℕ). get_or s k 0) q) ∙ e))
+
+pub no_digit : (s : List ℕ) → ((k : ℕ) → 0 ≤ k → k < length s → get_or s k 0 ≡ 48) → Significant s 0
+no_digit s z = trim_end s 0 (trim_to s 0 (omega arith) z) (omega arith)
+
 -- ---- the limits
 
-real_kept_lem : (neg t : Bool) (m p : ℕ) → (m ≡ 0 → ⊥) → m < 10 ^ 18 → p ≤ 999 → (t && not (eqb p 0)) ≡ t → RealIs (signed neg m) (signed t p) (Float (record { minus = neg; number = m; below = t; power = p }))
+real_kept_lem : (neg t : Bool) (m p : ℕ) → (m ≡ 0 → ⊥) → m < 10 ^ 18 → p ≤ 999 → (t && not (eqb p 0)) ≡ t → RealIs (signed neg m) (signed t p) (Ok (Float (record { minus = neg; number = m; below = t; power = p })))
 real_kept_lem neg t m p z h k e = record { worth = λ w off. rw (ne_eqb m 0 z, lt-ltb m (10 ^ 18) h, le-leb p 999 k, e, and_yes neg) }
 
 far_power : (n p : Whole) → 999 < p.size → real_kept (record { number = n; power = p }) ≡ cond (eqb n.size 0) (some (record { number = signed false 0; power = signed false 0 })) none
 far_power n p h = rw (lt-leb p.size 999 h, and-false (ltb n.size (10 ^ 18)))
 
-far_past : (n p : Whole) → (n.size ≡ 0 → ⊥) → 999 < p.size → RealIs n p Past
+far_past : (n p : Whole) → (n.size ≡ 0 → ⊥) → 999 < p.size → RealIs n p (Err PastLimit)
 far_past n p z h = record { worth = λ w off. rw (far_power n p h, ne_eqb n.size 0 z) }
 
 module _ (neg : Bool) (m plus minus : ℕ) where
-  pub no_number : m ≡ 0 → Finished neg m plus minus (Float (record { minus = false; number = 0; below = false; power = 0 }))
+  pub no_number : m ≡ 0 → Finished neg m plus minus (Ok (Float (record { minus = false; number = 0; below = false; power = 0 })))
   no_number h = record { worth = λ n e. let q : n ≡ 0 = omega arith in record { worth = λ w off. rw q } }
 
-  pub big_number : 999999999999999999 < m → Finished neg m plus minus Past
+  pub big_number : 999999999999999999 < m → Finished neg m plus minus (Err PastLimit)
   big_number h = record {
     worth = λ n e. let z : n ≡ 0 → ⊥ = λ z. omega arith in
         record { worth = λ w off. rw (ne_eqb n 0 z, le-ltb n (10 ^ 18) (omega arith)) };
   }
 
-  pub below_fits : (m ≡ 0 → ⊥) → m ≤ 999999999999999999 → plus < minus → minus - plus ≤ 999 → Finished neg m plus minus (Float (record { minus = neg; number = m; below = true; power = minus - plus }))
+  pub below_fits : (m ≡ 0 → ⊥) → m ≤ 999999999999999999 → plus < minus → minus - plus ≤ 999 → Finished neg m plus minus (Ok (Float (record { minus = neg; number = m; below = true; power = minus - plus })))
   below_fits z h l k = record {
     worth = λ n e.
         let q : n ≡ m = omega arith in
@@ -86,7 +106,7 @@ module _ (neg : Bool) (m plus minus : ℕ) where
         rw (q, d, lt-ltb plus minus l) (real_kept_lem neg true m (minus - plus) z (omega arith) k (rw (ne_eqb (minus - plus) 0 (λ x. omega arith))));
   }
 
-  pub above_fits : (m ≡ 0 → ⊥) → m ≤ 999999999999999999 → minus ≤ plus → plus - minus ≤ 999 → Finished neg m plus minus (Float (record { minus = neg; number = m; below = false; power = plus - minus }))
+  pub above_fits : (m ≡ 0 → ⊥) → m ≤ 999999999999999999 → minus ≤ plus → plus - minus ≤ 999 → Finished neg m plus minus (Ok (Float (record { minus = neg; number = m; below = false; power = plus - minus })))
   above_fits z h l k = record {
     worth = λ n e.
         let q : n ≡ m = omega arith in
@@ -94,13 +114,13 @@ module _ (neg : Bool) (m plus minus : ℕ) where
         rw (q, d, le-ltb plus minus l) (real_kept_lem neg false m (plus - minus) z (omega arith) k refl);
   }
 
-  far : (m ≡ 0 → ⊥) → 999 < (plus - minus) + (minus - plus) → Finished neg m plus minus Past
+  far : (m ≡ 0 → ⊥) → 999 < (plus - minus) + (minus - plus) → Finished neg m plus minus (Err PastLimit)
   far z h = record { worth = λ n e. far_past (signed neg n) (signed (ltb plus minus) ((plus - minus) + (minus - plus))) (λ x. z (omega arith)) h }
 
-  pub below_far : (m ≡ 0 → ⊥) → 999 < minus - plus → Finished neg m plus minus Past
+  pub below_far : (m ≡ 0 → ⊥) → 999 < minus - plus → Finished neg m plus minus (Err PastLimit)
   below_far z h = far z (omega arith)
 
-  pub above_far : (m ≡ 0 → ⊥) → 999 < plus - minus → Finished neg m plus minus Past
+  pub above_far : (m ≡ 0 → ⊥) → 999 < plus - minus → Finished neg m plus minus (Err PastLimit)
   above_far z h = far z (omega arith)
 
 -- ---- an exponent that is held to a million decides the same
@@ -139,10 +159,10 @@ difference a b = signed (ltb a b) ((a - b) + (b - a))
 moved_is : (t : Bool) (z up down : ℕ) → moved (signed t z) up down ≡ difference (up + cond t 0 z) (down + cond t z 0)
 moved_is t z up down = rw (above_zero t z, below_zero t z)
 
-both_far : (n p q : Whole) (r : Value) → 999 < p.size → 999 < q.size → RealIs n p r → RealIs n q r
+both_far : (n p q : Whole) (r : Answer) → 999 < p.size → 999 < q.size → RealIs n p r → RealIs n q r
 both_far n p q r h k v = record { worth = λ w off. rw (far_power n q k) (rw (far_power n p h) at (v.worth w off)) }
 
-module _ (neg : Bool) (m : ℕ) (below : Bool) (scale up down plus minus : ℕ) {r : Value} where
+module _ (neg : Bool) (m : ℕ) (below : Bool) (scale up down plus minus : ℕ) {r : Answer} where
   pub settled : up ≤ 200000 → down ≤ 200000 → plus ≡ up + cond below 0 scale → minus ≡ down + cond below scale 0 → Finished neg m plus minus r → Scaled neg m below scale up down r
   settled a b p q F = record { worth = λ n z e f. rw (moved_is below z up down) (go below n z f (leb z 1000000) refl (rw (p, q) at (F.worth n e))) }
     where
@@ -177,7 +197,7 @@ onto_capped cap n s = go (leb n cap) refl
         let q : min cap n ≡ cap = omega arith in
         rw q (omega (arith, grows cap s, grows n s))
 
-module _ (neg : Bool) (ds fs : List ℕ) (below : Bool) (x : List ℕ) (i scale : ℕ) {r : Value} where
+module _ (neg : Bool) (ds fs : List ℕ) (below : Bool) (x : List ℕ) (i scale : ℕ) {r : Answer} where
   answer : (s : List ℕ) (m up : ℕ) → significant (ds ++ fs) ≡ s → m ≡ min (10 ^ 18) (onto 0 s) → up ≡ length (ds ++ fs) - length s → scale ≡ min 1000000 (onto 0 x) → Scaled neg m below scale up (length fs) r → Worth (a_decimal neg ds fs (signed below (number x))) r
   answer s m up e f g h S = record { worth = λ w off. rw (e, ← g) ((S.worth (onto 0 s) (onto 0 x) f h).worth w off) }
 

@@ -1,7 +1,8 @@
 -- What the readers of words say is said in one way: each verdict of the rules is told by one value, its numbers included.
 use Prim.Native.Nat.{ℕ}
 use mathlib.Core.Bool.{Bool, false}
-use mathlib.Core.Option.{Option, none, some}
+use mathlib.Core.Option.{Option as rule-Option, none, some}
+use Rattle.std.specs.Prelude.{Some, None, Ok, Err}
 use mathlib.Core.Path.{◌≡◌, refl, sym, ap, ◌∙◌}
 use mathlib.Core.List.{List, []}
 use native.Mathlib.Omega.{arith}
@@ -13,13 +14,11 @@ use Rattle.words.specs.declared.Fixed.{Fixed}
 use Rattle.words.specs.declared.Fixed.TheVariants as fixed
 use Rattle.words.specs.declared.Real.{Real}
 use Rattle.words.specs.declared.Moment.{Moment}
-use Rattle.words.specs.declared.Value.{Value}
-use Rattle.words.specs.declared.Value.TheVariants.{Name, End, The, Integer, Based, Float, Time, Past, NoForm}
-use Rattle.words.specs.declared.days.InCalendar.{InCalendar}
-use Rattle.words.specs.declared.days.InCalendar.TheVariants.{Missing, On}
-use Rattle.words.specs.Says.{fixed_of, verdict_of, Worth, Named, Means}
+use Rattle.words.specs.declared.Value.TheVariants.{Name, End, The, Integer, Based, Float, Time}
+use Rattle.words.specs.declared.Unfit.TheVariants.{NoForm, PastLimit}
+use Rattle.words.specs.Says.{fixed_of, Answer, verdict_of, Worth, Named, Means}
 use Rattle.words.specs.Parts.{Significant}
-use Rattle.words.specs.Days.{day_if_any}
+use Rattle.words.specs.Days.{InCalendar, day_if_any}
 use Rattle.words.proofs.Reserved.{classified_once}
 use Rattle.words.specs.Times.{Timed}
 
@@ -72,61 +71,61 @@ real_of_lem x = record { minus = x.number.minus; number = x.number.size; below =
 abbrev pub moment_of_lem : rule.Moment → Moment
 moment_of_lem x = record { parts = x.parts; year = x.year; month = x.month; day = x.day; hour = x.hour; minute = x.minute; second = x.second; nanoseconds = x.nanoseconds; west = x.offset.minus; offset = x.offset.size; mark = x.mark }
 
--- the value that says a verdict; NoForm for an element that no word is
-abbrev value_of_verdict : WordVerdict → Value
-value_of_verdict (is (rule.name n)) = Name
-value_of_verdict (is (rule.the k)) = The (fixed_is k)
-value_of_verdict (is (rule.end off)) = End
-value_of_verdict (is (rule.integer n)) = Integer n.minus n.size
-value_of_verdict (is (rule.based n)) = Based n.minus n.size
-value_of_verdict (is (rule.real x)) = Float (real_of_lem x)
-value_of_verdict (is (rule.moment x)) = Time (moment_of_lem x)
-value_of_verdict (is (rule.range lo hi)) = NoForm
-value_of_verdict (is rule.text) = NoForm
-value_of_verdict (is rule.symbol) = NoForm
-value_of_verdict over = Past
-value_of_verdict formless = NoForm
+-- the answer that says a verdict; no form for an element that no word is
+abbrev answer_of_verdict : WordVerdict → Answer
+answer_of_verdict (is (rule.name n)) = Ok Name
+answer_of_verdict (is (rule.the k)) = Ok (The (fixed_is k))
+answer_of_verdict (is (rule.end off)) = Ok End
+answer_of_verdict (is (rule.integer n)) = Ok (Integer n.minus n.size)
+answer_of_verdict (is (rule.based n)) = Ok (Based n.minus n.size)
+answer_of_verdict (is (rule.real x)) = Ok (Float (real_of_lem x))
+answer_of_verdict (is (rule.moment x)) = Ok (Time (moment_of_lem x))
+answer_of_verdict (is (rule.range lo hi)) = Err NoForm
+answer_of_verdict (is rule.text) = Err NoForm
+answer_of_verdict (is rule.symbol) = Err NoForm
+answer_of_verdict over = Err PastLimit
+answer_of_verdict formless = Err NoForm
 
 module _ (w : List ℕ) (off : Bool) where
-  value_back : (r : Value) → value_of_verdict (verdict_of w off r) ≡ r
-  value_back Name = refl
-  value_back End = refl
-  value_back (The k) = ap The (fixed_back k)
-  value_back (Integer neg n) = refl
-  value_back (Based neg n) = refl
-  value_back (Float x) = refl
-  value_back (Time t) = refl
-  value_back Past = refl
-  value_back NoForm = refl
+  answer_back : (r : Answer) → answer_of_verdict (verdict_of w off r) ≡ r
+  answer_back (Ok Name) = refl
+  answer_back (Ok End) = refl
+  answer_back (Ok (The k)) = ap (λ f. Ok (The f)) (fixed_back k)
+  answer_back (Ok (Integer neg n)) = refl
+  answer_back (Ok (Based neg n)) = refl
+  answer_back (Ok (Float x)) = refl
+  answer_back (Ok (Time t)) = refl
+  answer_back (Err PastLimit) = refl
+  answer_back (Err NoForm) = refl
 
-  verdict_once : (r r' : Value) → verdict_of w off r ≡ verdict_of w off r' → r ≡ r'
-  verdict_once r r' e = sym (value_back r) ∙ ap value_of_verdict e ∙ value_back r'
+  verdict_once : (r r' : Answer) → verdict_of w off r ≡ verdict_of w off r' → r ≡ r'
+  verdict_once r r' e = sym (answer_back r) ∙ ap answer_of_verdict e ∙ answer_back r'
 
-pub worth_once : {v : rules.Written} {r r' : Value} → Worth v r → Worth v r' → r ≡ r'
+pub worth_once : {v : rules.Written} {r r' : Answer} → Worth v r → Worth v r' → r ≡ r'
 worth_once {r} {r'} x y = verdict_once [] false r r' (sym (x.worth [] false) ∙ y.worth [] false)
 
-pub named_once : {w : List ℕ} {r r' : Value} → Named w r → Named w r' → r ≡ r'
+pub named_once : {w : List ℕ} {r r' : Answer} → Named w r → Named w r' → r ≡ r'
 named_once {w} {r} {r'} x y = verdict_once w false r r' (sym (x.names false) ∙ y.names false)
 
-pub timed_once : {parts : ℕ} {d : rules.Day} {t : rules.Time} {r r' : Value} → Timed parts d t r → Timed parts d t r' → r ≡ r'
+pub timed_once : {parts : ℕ} {d : rules.Day} {t : rules.Time} {r r' : Answer} → Timed parts d t r → Timed parts d t r' → r ≡ r'
 timed_once {r} {r'} x y = verdict_once [] false r r' (sym (x.worth [] false) ∙ y.worth [] false)
 
 -- of a word, whatever follows it
-pub word_once : {w : List ℕ} {r r' : Value} → Means w r → Means w r' → r ≡ r'
+pub word_once : {w : List ℕ} {r r' : Answer} → Means w r → Means w r' → r ≡ r'
 word_once {w} {r} {r'} x y =
     verdict_once w false r r' (sym (classified_once w false (verdict_of w false r) (x.means false)) ∙ classified_once w false (verdict_of w false r') (y.means false))
 
 -- ---- days and digits
 
-abbrev day_from : Option rules.Day → InCalendar
-day_from none = Missing
-day_from (some d) = On (record { year = d.year; month = d.month; day = d.day })
+abbrev day_from : rule-Option rules.Day → InCalendar
+day_from none = None
+day_from (some d) = Some (record { year = d.year; month = d.month; day = d.day })
 
 day_back : (r : InCalendar) → day_from (day_if_any r) ≡ r
-day_back Missing = refl
-day_back (On d) = refl
+day_back None = refl
+day_back (Some d) = refl
 
-pub day_once : {d : Option rules.Day} (r r' : InCalendar) → d ≡ day_if_any r → d ≡ day_if_any r' → r ≡ r'
+pub day_once : {d : rule-Option rules.Day} (r r' : InCalendar) → d ≡ day_if_any r → d ≡ day_if_any r' → r ≡ r'
 day_once r r' x y = sym (day_back r) ∙ ap day_from (sym x ∙ y) ∙ day_back r'
 
 pub zeros_once : {s : List ℕ} {r r' : ℕ} → Significant s r → Significant s r' → r ≡ r'

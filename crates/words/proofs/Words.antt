@@ -1,7 +1,8 @@
 -- A word: the value of each of its forms.
 use Prim.Native.Nat.{ℕ, ◌^◌, ◌≤◌}
 use mathlib.Core.Bool.{Bool}
-use mathlib.Core.Option.{Option, none, some}
+use mathlib.Core.Option.{Option as mathlib-Option, none, some}
+use Rattle.std.specs.Prelude.{Option, Some, None, Err}
 use mathlib.Core.Path.{◌≡◌, ap, subst, ◌∙◌}
 use mathlib.Core.List.{List}
 use native.Mathlib.Nat.{pow-le-pow_right}
@@ -25,11 +26,10 @@ use Rattle.forms.specs.declared.Clock.{Clock}
 use Rattle.forms.specs.declared.Zone.{Zone}
 use Rattle.forms.specs.declared.Stamp.{Stamp}
 use Rattle.forms.specs.declared.Form.{Form}
-use Rattle.forms.specs.declared.Form.TheVariants.{NoForm, Name, Whole, Radix, Decimal, Day, Moment}
+use Rattle.forms.specs.declared.Form.TheVariants.{Name, Whole, Radix, Decimal, Day, Moment}
 use Rattle.forms.specs.Forms.{on, date_of, zone_of, time_of, written, FormAt}
-use Rattle.words.specs.declared.Value.{Value}
-use Rattle.words.specs.declared.Value.TheVariants as values
-use Rattle.words.specs.Says.{Worth, Named, Means}
+use Rattle.words.specs.declared.Unfit.TheVariants.{NoForm}
+use Rattle.words.specs.Says.{Answer, Worth, Named, Means}
 use Rattle.words.specs.Parts.{Valued}
 use Rattle.words.specs.Days.{year_of}
 use Rattle.words.specs.Times.{InDigits, WrittenInDigits}
@@ -39,16 +39,13 @@ pub short_part : (w s : List ℕ) (p : Span) → length w ≤ longest → s ≡ 
 short_part w s p h e = rw (e, length-take, length-drop) (omega arith)
 
 module _ (w : List ℕ) (f : Form) where
-  pub date_digits : (d : Date) → WrittenInDigits (written w f) → f ≡ Day d → year_of (date_of w d) ≤ 9999
+  pub date_digits : (d : Date) → WrittenInDigits (written w (Some f)) → f ≡ Day d → year_of (date_of w d) ≤ 9999
   date_digits d k q = rw q at k
 
-  pub time_digits : (s : Stamp) (c : Clock) (z : Zone) → WrittenInDigits (written w f) → f ≡ Moment s c z → InDigits (time_of w s c (zone_of w z))
+  pub time_digits : (s : Stamp) (c : Clock) (z : Zone) → WrittenInDigits (written w (Some f)) → f ≡ Moment s c z → InDigits (time_of w s c (zone_of w z))
   time_digits s c z k q = rw q at k
 
-  pub formless_word : f ≡ NoForm → Valued w f values.NoForm
-  formless_word q = record { values = λ off. rw q }
-
-module _ (w : List ℕ) (f : Form) {r : Value} where
+module _ (w : List ℕ) (f : Form) {r : Answer} where
   pub name_word : f ≡ Name → Named w r → Valued w f r
   name_word q v = record { values = λ off. rw q (v.names off) }
 
@@ -91,12 +88,17 @@ in_digits (date_time_word (upper_t D T)) = (four_digits D, second_digits T)
 in_digits (date_time_word (lower_t D T)) = (four_digits D, second_digits T)
 in_digits (range_word h (from_to S D N)) = tt
 
-pub written_in_digits : (w : List ℕ) (f : Form) → FormAt (g_word base) w 0 f → WrittenInDigits (written w f)
-written_in_digits w f x = go (written w f) x.matched
+pub written_in_digits : (w : List ℕ) (a : Option Form) (f : Form) → FormAt (g_word base) w 0 a → a ≡ Some f → WrittenInDigits (written w (Some f))
+written_in_digits w a f x q = subst (λ (b : Option Form). WrittenInDigits (written w b)) q (go (written w a) x.matched)
   where
-    go : (o : Option Written) → shape base w ≡ o → WrittenInDigits o
+    go : (o : mathlib-Option Written) → shape base w ≡ o → WrittenInDigits o
     go none e = tt
     go (some v) e = in_digits (shape_sound base w v e)
 
-pub meaning : (w : List ℕ) (f : Form) {r : Value} → FormAt (g_word base) w 0 f → Valued w f r → Means w r
-meaning w f x v = record { means = λ off. subst (Classified base off w) (ap (shaped base off) x.matched ∙ v.values off) (classified base off w) }
+pub no_meaning : (w : List ℕ) (a : Option Form) → FormAt (g_word base) w 0 a → a ≡ None → Means w (Err NoForm)
+no_meaning w a x q = record { means = λ off. subst (Classified base off w) (ap (shaped base off) (x.matched ∙ ap (written w) q)) (classified base off w) }
+
+pub meaning : (w : List ℕ) (a : Option Form) (f : Form) (r : Answer) → FormAt (g_word base) w 0 a → a ≡ Some f → Valued w f r → Means w r
+meaning w a f r x q v = record {
+  means = λ off. subst (Classified base off w) (ap (shaped base off) (x.matched ∙ ap (written w) q) ∙ v.values off) (classified base off w);
+}

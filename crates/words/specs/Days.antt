@@ -1,10 +1,9 @@
 -- Terms of the contracts of days: the days before a month, and the day that the code has found.
 use Rattle.std.specs.Prelude.{ℕ, ◌+◌, ◌-◌, ◌*◌, ◌≤◌, min, Bool, cond, ◌&&◌, ◌≡◌, List, [], ◌∷◌, eqb, get_or, take}
 use Rattle.std.proofs.Math.Option.{Option, none, some}
+use Rattle.std.specs.Prelude as std
 use Rattle.rules.specs.Values.{leap, Day, Date, in_year, in_month, day_of}
 use Rattle.words.specs.declared.days.Day as code
-use Rattle.words.specs.declared.days.InCalendar.{InCalendar}
-use Rattle.words.specs.declared.days.InCalendar.TheVariants.{Missing, On}
 
 abbrev pub months : List ℕ
 months = 1 ∷ 2 ∷ 3 ∷ 4 ∷ 5 ∷ 6 ∷ 7 ∷ 8 ∷ 9 ∷ 10 ∷ 11 ∷ 12 ∷ []
@@ -32,10 +31,14 @@ pub record Before (y m r : ℕ) : Type 0 where
 abbrev pub day_is : code.Day → Day
 day_is d = record { year = d.year; month = d.month; day = d.day }
 
+-- a day of the code, or none where the calendar has none
+abbrev pub InCalendar : Type 0
+InCalendar = std.Option code.Day
+
 -- the day that the code has found, if the calendar has it
 abbrev pub day_if_any : InCalendar → Option Day
-day_if_any Missing = none
-day_if_any (On d) = some (day_is d)
+day_if_any std.None = none
+day_if_any (std.Some d) = some (day_is d)
 
 -- the answer to a year and a day of it, which is held to 10,000
 pub record YearDay (y n : ℕ) (r : InCalendar) : Type 0 where

@@ -15,13 +15,6 @@ pub struct Day {
     pub day: u8,
 }
 
-// A day that the calendar has, or that it has none.
-#[derive(Clone, Copy)]
-pub enum InCalendar {
-    Missing,
-    On(Day),
-}
-
 fn is_leap(year: u64) -> bool
     ensures { result ≡ leap year }
 {
@@ -57,31 +50,31 @@ fn days_before(year: u64, month: u64) -> u64
 }
 
 // A year and a day of it. No month has more than 31 days, and all of them lack 7 days of that at most, so that the month is the guessed one or the next.
-fn day_in_year(year: u64, n: u64) -> InCalendar
+fn day_in_year(year: u64, n: u64) -> Option<Day>
     requires { year ≤ 9999 }
     ensures { YearDay year n result }
 {
     if year == 0 {
-        return InCalendar::Missing;
+        return None;
     }
     if n == 0 {
-        return InCalendar::Missing;
+        return None;
     }
     let d = days_before(year, 12);
     if d + 31 < n {
-        return InCalendar::Missing;
+        return None;
     }
     let m = (n - 1) / 31 + 1;
     let a = days_before(year, m);
     let e = a + month_length(year, m);
     if n <= e {
-        return InCalendar::On(Day {
+        return Some(Day {
             year: year as u16,
             month: m as u8,
             day: (n - a) as u8,
         });
     }
-    InCalendar::On(Day {
+    Some(Day {
         year: year as u16,
         month: (m + 1) as u8,
         day: (n - e) as u8,
@@ -89,26 +82,26 @@ fn day_in_year(year: u64, n: u64) -> InCalendar
 }
 
 // A year, a month and a day of the month.
-fn day_in_month(year: u64, m: u64, d: u64) -> InCalendar
+fn day_in_month(year: u64, m: u64, d: u64) -> Option<Day>
     requires { year ≤ 9999 }
     ensures { MonthDay year m d result }
 {
     if year == 0 {
-        return InCalendar::Missing;
+        return None;
     }
     if m == 0 {
-        return InCalendar::Missing;
+        return None;
     }
     if 12 < m {
-        return InCalendar::Missing;
+        return None;
     }
     if d == 0 {
-        return InCalendar::Missing;
+        return None;
     }
     if month_length(year, m) < d {
-        return InCalendar::Missing;
+        return None;
     }
-    InCalendar::On(Day {
+    Some(Day {
         year: year as u16,
         month: m as u8,
         day: d as u8,
@@ -116,7 +109,7 @@ fn day_in_month(year: u64, m: u64, d: u64) -> InCalendar
 }
 
 // The day of a date, of which the year stands in the first four bytes.
-pub fn day_of(w: &[u8], date: Date) -> InCalendar
+pub fn day_of(w: &[u8], date: Date) -> Option<Day>
     requires { year_of (date_of w.now date) ≤ 9999 }
     ensures { day_of (date_of w.now date) ≡ day_if_any result }
 {

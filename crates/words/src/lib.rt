@@ -7,7 +7,7 @@ mod reals; // reals.rt: reals
 mod days; // days.rt: days of the calendar
 mod times; // times.rt: times, with a day or without
 
-ghost use Rattle.std.specs.Prelude.{◌≤◌, length, ◌≡◌};
+ghost use Rattle.std.specs.Prelude.{◌≤◌, length, ◌≡◌, Some};
 ghost use Rattle.rules.specs.Reading.{longest};
 ghost use Rattle.rules.specs.Written.{is_name};
 ghost use Rattle.forms.specs.Forms.{written};
@@ -25,7 +25,7 @@ use reals::decimal;
 use times::{dated, stamped};
 
 // The words and signs that are spelled in one way: the reserved words but END, and the signs.
-#[derive(Clone, Copy)]
+#[derive(Clone, Copy, PartialEq, Eq)]
 pub enum Fixed {
     Object,
     EndObject,
@@ -89,18 +89,22 @@ pub enum Value {
     Based(bool, u64),
     Float(Real),
     Time(Moment),
-    Past,
-    NoForm,
 }
 
-// The value of a form.
-fn value_of(w: &[u8], form: Form) -> Value
+// Why a word has no value: it has no form, or it is past a limit.
+#[derive(Clone, Copy, Debug, PartialEq, Eq)]
+pub enum Unfit {
+    NoForm,
+    PastLimit,
+}
+
+// The value of a form, unless it is past a limit.
+fn value_of(w: &[u8], form: Form) -> Result<Value, Unfit>
     requires w_len_bound { length w.now ≤ longest }
-    requires written_in_digits { WrittenInDigits (written w.now form) }
+    requires written_in_digits { WrittenInDigits (written w.now (Some form)) }
     ensures { Valued w.now form result }
 {
     match form {
-        Form::NoForm => Value::NoForm,
         Form::Name => name(w),
         Form::Whole(negative, ds) => whole(negative, bytes_of(w, ds)),
         Form::Radix(radix, negative, ds) => in_radix(bytes_of(w, radix), negative, bytes_of(w, ds)),
@@ -119,11 +123,13 @@ fn value_of(w: &[u8], form: Form) -> Value
 }
 
 // The value of any bytes as a word.
-pub fn word(w: &[u8]) -> Value
+pub fn word(w: &[u8]) -> Result<Value, Unfit>
     requires { length w.now ≤ longest }
     ensures { Means w.now result }
 {
-    let form = shape(w);
+    let Some(form) = shape(w) else {
+        return Err(Unfit::NoForm);
+    };
     value_of(w, form)
 }
 
@@ -132,15 +138,5 @@ pub fn is_name(w: &[u8]) -> bool
     requires { length w.now ≤ longest }
     ensures { result ≡ is_name w.now }
 {
-    match word(w) {
-        Value::Name => true,
-        Value::End => false,
-        Value::The(_) => false,
-        Value::Integer(_, _) => false,
-        Value::Based(_, _) => false,
-        Value::Float(_) => false,
-        Value::Time(_) => false,
-        Value::Past => false,
-        Value::NoForm => false,
-    }
+    matches!(word(w), Ok(Value::Name))
 }

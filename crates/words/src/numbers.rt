@@ -5,12 +5,14 @@ ghost use Rattle.forms.specs.Forms.{on};
 ghost use Rattle.words.specs.Says.{Worth};
 ghost use Rattle.words.specs.Parts.{based};
 
-use crate::Value;
+use crate::{Unfit, Value};
 use classes::{folded, is_digit, part};
 use forms::Span;
 
-// 2^63, past every integer that is kept.
+// 2^63, past every integer that is kept, and the largest of those.
 pub const PAST_INTEGER: u64 = 0x8000_0000_0000_0000;
+
+const LARGEST_INTEGER: u64 = 0x7FFF_FFFF_FFFF_FFFF;
 
 // The bytes of a span, as far as there are any.
 pub fn bytes_of(w: &[u8], span: Span) -> &[u8]
@@ -32,27 +34,25 @@ pub fn number_onto(first: u64, ds: &[u8], cap: u64) -> u64
     ensures { result ≡ min cap (onto first ds.now) }
 {
     let mut n = first;
-    let mut i = 0;
-    while i < ds.len() {
-        let d = digit_value(ds[i]);
+    for b in ds {
+        let d = digit_value(*b);
         if (cap - d) / 10 < n {
             return cap;
         }
         n = n * 10 + d;
-        i += 1;
     }
     n
 }
 
 // An integer.
-pub fn whole(negative: bool, ds: &[u8]) -> Value
+pub fn whole(negative: bool, ds: &[u8]) -> Result<Value, Unfit>
     ensures { Worth (a_whole (signed negative (number ds.now))) result }
 {
     let n = number_onto(0, ds, PAST_INTEGER);
     if n == PAST_INTEGER {
-        return Value::Past;
+        return Err(Unfit::PastLimit);
     }
-    Value::Integer(negative & (n != 0), n)
+    Ok(Value::Integer(negative & (n != 0), n))
 }
 
 // The number of a span, or 10,000 where it is more, as no part of a date or time may be. Not inlined: a date and time has seven.
@@ -80,41 +80,38 @@ fn worth_of(b: u8) -> u64
     letter_value(folded(b))
 }
 
-// The number of extended digits, or 2^63 where it is more or a digit is not below the radix.
-fn in_base(radix: u64, ds: &[u8]) -> u64
+// The number of extended digits, unless it is past the largest integer or a digit is not below the radix.
+fn in_base(radix: u64, ds: &[u8]) -> Option<u64>
     requires { (2 ≤ radix) × (radix ≤ 16) }
     ensures { result ≡ based radix ds.now }
 {
     let mut n = 0;
-    let mut i = 0;
-    while i < ds.len() {
-        let d = worth_of(ds[i]);
+    for b in ds {
+        let d = worth_of(*b);
         if radix <= d {
-            return PAST_INTEGER;
+            return None;
         }
-        if (PAST_INTEGER - d) / radix < n {
-            return PAST_INTEGER;
+        if (LARGEST_INTEGER - d) / radix < n {
+            return None;
         }
         n = n * radix + d;
-        i += 1;
     }
-    n
+    Some(n)
 }
 
 // A based integer.
-pub fn in_radix(radix: &[u8], negative: bool, ds: &[u8]) -> Value
+pub fn in_radix(radix: &[u8], negative: bool, ds: &[u8]) -> Result<Value, Unfit>
     ensures { Worth (a_based (number radix.now) negative ds.now) result }
 {
     let b = number_onto(0, radix, 255);
     if b < 2 {
-        return Value::Past;
+        return Err(Unfit::PastLimit);
     }
     if 16 < b {
-        return Value::Past;
+        return Err(Unfit::PastLimit);
     }
-    let n = in_base(b, ds);
-    if n == PAST_INTEGER {
-        return Value::Past;
-    }
-    Value::Based(negative & (n != 0), n)
+    let Some(n) = in_base(b, ds) else {
+        return Err(Unfit::PastLimit);
+    };
+    Ok(Value::Based(negative & (n != 0), n))
 }

@@ -6,7 +6,7 @@ ghost use Rattle.words.specs.Says.{Worth};
 ghost use Rattle.words.specs.Parts.{Significant, Finished, Scaled};
 
 use crate::numbers::number_onto;
-use crate::{Real, Value};
+use crate::{Real, Unfit, Value};
 
 // 18 digits at most, and one more than that.
 const LARGEST_NUMBER: u64 = 999_999_999_999_999_999;
@@ -22,14 +22,10 @@ const PAST_SCALE: u64 = 1_000_000;
 pub fn without_zeros(s: &[u8]) -> usize
     ensures { Significant s.now result }
 {
-    let mut j = s.len();
-    while 0 < j {
-        if s[j - 1] != b'0' {
-            return j;
-        }
-        j -= 1;
+    match s.iter().rposition(|b| *b != b'0') {
+        Some(i) => i + 1,
+        None => 0,
     }
-    0
 }
 
 // What an exponent adds to a power that is raised otherwise.
@@ -49,46 +45,53 @@ fn lowered(below: bool, scale: u64, by: u64) -> u64
 }
 
 // The real of a number, held to 10^18, and a power, as what raises it and what lowers it.
-fn finish(negative: bool, m: u64, plus: u64, minus: u64) -> Value
+fn finish(negative: bool, m: u64, plus: u64, minus: u64) -> Result<Value, Unfit>
     ensures { Finished negative m plus minus result }
 {
     if m == 0 {
-        return Value::Float(Real {
+        return Ok(Value::Float(Real {
             minus: false,
             number: 0,
             below: false,
             power: 0,
-        });
+        }));
     }
     if LARGEST_NUMBER < m {
-        return Value::Past;
+        return Err(Unfit::PastLimit);
     }
     if plus < minus {
         let p = minus - plus;
         if LARGEST_POWER < p {
-            return Value::Past;
+            return Err(Unfit::PastLimit);
         }
-        return Value::Float(Real {
+        return Ok(Value::Float(Real {
             minus: negative,
             number: m,
             below: true,
             power: p as u16,
-        });
+        }));
     }
     let p = plus - minus;
     if LARGEST_POWER < p {
-        return Value::Past;
+        return Err(Unfit::PastLimit);
     }
-    Value::Float(Real {
+    Ok(Value::Float(Real {
         minus: negative,
         number: m,
         below: false,
         power: p as u16,
-    })
+    }))
 }
 
 // The same, of an exponent held to a million, which decides like the written one where the digits are fewer.
-fn scaled(negative: bool, m: u64, below: bool, scale: u64, up: u64, down: u64) -> Value
+fn scaled(
+    negative: bool,
+    m: u64,
+    below: bool,
+    scale: u64,
+    up: u64,
+    down: u64,
+) -> Result<Value, Unfit>
     requires { (scale ≤ 1000000) × (up ≤ 200000) × (down ≤ 200000) }
     ensures { Scaled negative m below scale up down result }
 {
@@ -98,7 +101,7 @@ fn scaled(negative: bool, m: u64, below: bool, scale: u64, up: u64, down: u64) -
 }
 
 // A real of the digits before and behind the period, and an exponent.
-pub fn decimal(negative: bool, ds: &[u8], fs: &[u8], below: bool, x: &[u8]) -> Value
+pub fn decimal(negative: bool, ds: &[u8], fs: &[u8], below: bool, x: &[u8]) -> Result<Value, Unfit>
     requires { (length ds.now ≤ longest) × (length fs.now ≤ longest) }
     ensures { Worth (a_decimal negative ds.now fs.now (signed below (number x.now))) result }
 {

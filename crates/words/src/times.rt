@@ -8,10 +8,10 @@ ghost use Rattle.words.specs.Says.{Worth};
 ghost use Rattle.words.specs.Days.{day_is, year_of};
 ghost use Rattle.words.specs.Times.{nanos_of, with_offset, InZone, Timed, InDigits};
 
-use crate::days::{Day, InCalendar, day_of};
+use crate::days::{Day, day_of};
 use crate::numbers::{bytes_of, number_of, number_onto};
 use crate::reals::without_zeros;
-use crate::{Moment, NO_ZONE, SIGNED_ZONE, Value, ZONE_Z};
+use crate::{Moment, NO_ZONE, SIGNED_ZONE, Unfit, Value, ZONE_Z};
 use forms::{Clock, Date, Span, Stamp, Zone};
 
 // A power where it counts, and 1 where it does not.
@@ -33,18 +33,18 @@ fn ten_to(e: usize) -> u64
     ten * square * fourth * eighth
 }
 
-// The nanoseconds of the decimals of a second, or 10^9 where they are too many.
-fn nanoseconds(ds: &[u8]) -> u64
+// The nanoseconds of the decimals of a second, unless these are too many.
+fn nanoseconds(ds: &[u8]) -> Option<u32>
     requires { All digit ds.now }
     ensures { result ≡ nanos_of ds.now }
 {
     let k = without_zeros(ds);
     if 9 < k {
-        return 1_000_000_000;
+        return None;
     }
     let n = number_onto(0, &ds[0..k], 1_000_000_000);
     let t = ten_to(9 - k);
-    n * t
+    Some((n * t) as u32)
 }
 
 // A moment with this offset and this mark.
@@ -59,52 +59,58 @@ fn in_zone(local: Moment, west: bool, offset: u16, mark: u8) -> Value
 }
 
 // A moment in a signed zone, whose sign covers both its hour and its minute.
-fn offset_by(w: &[u8], local: Moment, west: bool, hours: Span, minutes: Span) -> Value
+fn offset_by(
+    w: &[u8],
+    local: Moment,
+    west: bool,
+    hours: Span,
+    minutes: Span,
+) -> Result<Value, Unfit>
     ensures { InZone local (signed_zone west (number (on w.now hours)) (number (on w.now minutes))) result }
 {
     let h = number_of(w, hours);
     let m = number_of(w, minutes);
     if 12 < h {
-        return Value::Past;
+        return Err(Unfit::PastLimit);
     }
     if 59 < m {
-        return Value::Past;
+        return Err(Unfit::PastLimit);
     }
     let offset = h * 60 + m;
-    in_zone(local, west & (offset != 0), offset as u16, SIGNED_ZONE)
+    let minus = west & (offset != 0);
+    Ok(in_zone(local, minus, offset as u16, SIGNED_ZONE))
 }
 
 // A moment, whatever its zone was, in the zone that is written. No zone and Z both mean offset 0: the mark tells them apart.
-fn zoned(w: &[u8], local: Moment, zone: Zone) -> Value
+fn zoned(w: &[u8], local: Moment, zone: Zone) -> Result<Value, Unfit>
     ensures { InZone local (zone_of w.now zone) result }
 {
     match zone {
-        Zone::NoZone => in_zone(local, false, 0, NO_ZONE),
-        Zone::Utc => in_zone(local, false, 0, ZONE_Z),
+        Zone::NoZone => Ok(in_zone(local, false, 0, NO_ZONE)),
+        Zone::Utc => Ok(in_zone(local, false, 0, ZONE_Z)),
         Zone::Offset(west, hours, minutes) => offset_by(w, local, west, hours, minutes),
     }
 }
 
 // A day and a time of it.
-pub fn timed(w: &[u8], parts: u8, day: Day, clock: Clock, zone: Zone) -> Value
+pub fn timed(w: &[u8], parts: u8, day: Day, clock: Clock, zone: Zone) -> Result<Value, Unfit>
     requires { All digit (on w.now clock.decimals) }
     ensures { Timed parts (day_is day) (clock_of w.now clock (zone_of w.now zone)) result }
 {
     let h = number_of(w, clock.hour);
     let m = number_of(w, clock.minute);
     let s = number_of(w, clock.second);
-    let n = nanoseconds(bytes_of(w, clock.decimals));
+    let Some(n) = nanoseconds(bytes_of(w, clock.decimals)) else {
+        return Err(Unfit::PastLimit);
+    };
     if 23 < h {
-        return Value::Past;
+        return Err(Unfit::PastLimit);
     }
     if 59 < m {
-        return Value::Past;
+        return Err(Unfit::PastLimit);
     }
     if 59 < s {
-        return Value::Past;
-    }
-    if 999_999_999 < n {
-        return Value::Past;
+        return Err(Unfit::PastLimit);
     }
     let local = Moment {
         parts,
@@ -114,7 +120,7 @@ pub fn timed(w: &[u8], parts: u8, day: Day, clock: Clock, zone: Zone) -> Value
         hour: h as u8,
         minute: m as u8,
         second: s as u8,
-        nanoseconds: n as u32,
+        nanoseconds: n,
         west: false,
         offset: 0,
         mark: NO_ZONE,
@@ -123,41 +129,41 @@ pub fn timed(w: &[u8], parts: u8, day: Day, clock: Clock, zone: Zone) -> Value
 }
 
 // A day without a time.
-pub fn dated(w: &[u8], date: Date) -> Value
+pub fn dated(w: &[u8], date: Date) -> Result<Value, Unfit>
     requires { year_of (date_of w.now date) ≤ 9999 }
     ensures { Worth (a_date (date_of w.now date)) result }
 {
-    match day_of(w, date) {
-        InCalendar::Missing => Value::Past,
-        InCalendar::On(day) => Value::Time(Moment {
-            parts: 1,
-            year: day.year,
-            month: day.month,
-            day: day.day,
-            hour: 0,
-            minute: 0,
-            second: 0,
-            nanoseconds: 0,
-            west: false,
-            offset: 0,
-            mark: NO_ZONE,
-        }),
-    }
+    let Some(day) = day_of(w, date) else {
+        return Err(Unfit::PastLimit);
+    };
+    Ok(Value::Time(Moment {
+        parts: 1,
+        year: day.year,
+        month: day.month,
+        day: day.day,
+        hour: 0,
+        minute: 0,
+        second: 0,
+        nanoseconds: 0,
+        west: false,
+        offset: 0,
+        mark: NO_ZONE,
+    }))
 }
 
 // A date with a time.
-fn dated_time(w: &[u8], date: Date, clock: Clock, zone: Zone) -> Value
+fn dated_time(w: &[u8], date: Date, clock: Clock, zone: Zone) -> Result<Value, Unfit>
     requires { (year_of (date_of w.now date) ≤ 9999) × All digit (on w.now clock.decimals) }
     ensures { Worth (a_date_time (date_of w.now date) (clock_of w.now clock (zone_of w.now zone))) result }
 {
-    match day_of(w, date) {
-        InCalendar::Missing => Value::Past,
-        InCalendar::On(day) => timed(w, 3, day, clock, zone),
-    }
+    let Some(day) = day_of(w, date) else {
+        return Err(Unfit::PastLimit);
+    };
+    timed(w, 3, day, clock, zone)
 }
 
 // A time, with a date or without.
-pub fn stamped(w: &[u8], stamp: Stamp, clock: Clock, zone: Zone) -> Value
+pub fn stamped(w: &[u8], stamp: Stamp, clock: Clock, zone: Zone) -> Result<Value, Unfit>
     requires { InDigits (time_of w.now stamp clock (zone_of w.now zone)) }
     ensures { Worth (time_of w.now stamp clock (zone_of w.now zone)) result }
 {

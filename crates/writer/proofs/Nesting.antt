@@ -2,7 +2,7 @@
 use Prim.Native.Nat.{ℕ, ◌+◌, ◌≤◌, ◌<◌}
 use native.Mathlib.Omega.{arith}
 use mathlib.Core.Path.{◌≡◌, refl, sym, ap, ◌∙◌}
-use mathlib.Core.Bool.{Bool, true, false, not, false≢true}
+use mathlib.Core.Bool.{Bool, true, false, not}
 use mathlib.Core.List.{List, ◌∷◌}
 use Rattle.rules.specs.Reading.{longest}
 use Rattle.rows.specs.declared.Kind.{Kind}
@@ -54,12 +54,6 @@ pub others : (b : Blocks) (w : Row) → b.depth ≤ deepest → ((k : Kind) (x y
 others b w d h i = record { deep = d; is = λ o. sym (unmoved w h i (blocks_of b)) }
 
 -- whether there is a block to open or close
-
-pub does_nest : (w : Row) → Nests w true
-does_nest w = record { still = λ e. absurd (false≢true (sym e)) }
-
-pub does_not_nest : (w : Row) → ((k : Kind) (x y : ℕ) → w ≡ rows.Open k x y → ⊥) → ((k : Kind) → w ≡ rows.Close k → ⊥) → Nests w false
-does_not_nest w h i = record { still = λ e. unmoved w h i }
 
 no : (r : Bool) → not r ≡ true → r ≡ false
 no true e = sym e

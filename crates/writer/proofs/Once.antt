@@ -3,6 +3,7 @@ use Prim.Native.Nat.{ℕ, ◌≤◌}
 use mathlib.Core.Path.{◌≡◌, refl, sym, ap, ◌∙◌}
 use mathlib.Core.Bool.{cond}
 use mathlib.Core.List.{List}
+use Rattle.std.specs.Prelude.{Result, Ok, Err}
 use lib.Dec.{eqb}
 use lib.ListN.{length}
 use Rattle.rules.specs.Data as rule
@@ -16,25 +17,26 @@ use Rattle.output.proofs.Laws.{same_part}
 use Rattle.output.proofs.Once.{puts_once}
 use Rattle.writer.specs.Passing.{passing, PassWrites}
 use Rattle.writer.specs.Answer.{said}
-use Rattle.writer.specs.declared.Writing.{Writing}
-use Rattle.writer.specs.declared.Writing.TheVariants.{Written, TooLong, Improper, TooLongWritten, NoRoom}
+use Rattle.writer.specs.declared.outcome.Written.{Written}
+use Rattle.writer.specs.declared.outcome.Refusal.{Refusal}
+use Rattle.writer.specs.declared.outcome.Refusal.TheVariants.{TooLong, Improper, TooLongWritten, NoRoom}
 
 -- the answer of a code and a place
-abbrev answer : ℕ → ℕ → Writing
-answer c p = cond (eqb c 0) (Written p) (cond (eqb c 1) TooLong (cond (eqb c 12) (Improper p) (cond (eqb c 13) TooLongWritten (NoRoom p))))
+abbrev answer : ℕ → ℕ → Result Written Refusal
+answer c p = cond (eqb c 0) (Ok (record { length = p })) (Err (cond (eqb c 1) TooLong (cond (eqb c 12) (Improper p) (cond (eqb c 13) TooLongWritten (NoRoom p)))))
 
-again : (w : Writing) → answer (said w).code (said w).place ≡ w
-again (Written n) = refl
-again TooLong = refl
-again (Improper at) = refl
-again TooLongWritten = refl
-again (NoRoom n) = refl
+again : (w : Result Written Refusal) → answer (said w).code (said w).place ≡ w
+again (Ok w) = refl
+again (Err TooLong) = refl
+again (Err (Improper at)) = refl
+again (Err TooLongWritten) = refl
+again (Err (NoRoom n)) = refl
 
 -- what is said of an answer tells which it is
-pub said_once : {w w' : Writing} → said w ≡ said w' → w ≡ w'
+pub said_once : {w w' : Result Written Refusal} → said w ≡ said w' → w ≡ w'
 said_once {w} {w'} e = sym (again w) ∙ ap (λ (s : Said). answer s.code s.place) e ∙ again w'
 
-pub write_once : {label lent room last last' : List ℕ} {w w' : Writing} → Writes label lent room (said w) last → Writes label lent room (said w') last' →
+pub write_once : {label lent room last last' : List ℕ} {w w' : Result Written Refusal} → Writes label lent room (said w) last → Writes label lent room (said w') last' →
     (w ≡ w') × (said w ≡ said w') × (last ≡ last')
 write_once {label} {lent} {room} a b = let u = writes_once label lent room a b in (said_once u.0, u.0, u.1)
 

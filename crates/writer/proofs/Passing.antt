@@ -1,6 +1,7 @@
 -- The loop over the rows of a proper table: the rows done, the rows left, and what is written so far.
 use Prim.Native.Nat.{ℕ, suc, ◌+◌, ◌-◌, ◌≤◌, ◌<◌, min}
 use native.Mathlib.Omega.{arith}
+use Rattle.std.specs.Prelude.{Option, Some, None}
 use mathlib.Core.Path.{◌≡◌, refl, sym, ap, ap₂, subst, ◌∙◌}
 use mathlib.Core.Bool.{Bool, true, not}
 use mathlib.Core.List.{List, [], ◌∷◌, ◌++◌, map, append_assoc, append-nil}
@@ -27,17 +28,16 @@ use Rattle.rows.specs.Rows.{kind_of, row_of, deepest}
 use Rattle.rows.specs.Decoding.{Decodes, no_row, a_row}
 use Rattle.rows.specs.declared.Row.{Row}
 use Rattle.rows.specs.declared.Row.TheVariants as rows
-use Rattle.rows.specs.declared.Got.{Got}
-use Rattle.rows.specs.declared.Got.TheVariants.{Nothing, Found}
 use Rattle.rows.proofs.Decoding.{row_there}
 use Rattle.blocks.specs.Stack.{Block, block, rest, many, start_of, end_of, blocks_of, opens_of}
 use Rattle.blocks.specs.declared.Blocks.{Blocks}
 use Rattle.blocks.proofs.Opened.{counted}
 use Rattle.table.specs.Judging.{Judges}
 use Rattle.table.specs.Judging as judging
-use Rattle.table.specs.declared.Checked.TheVariants as checked
+use Rattle.std.specs.Prelude.{Ok}
 use Rattle.output.specs.Puts.{Puts}
 use Rattle.output.proofs.Laws.{onward, long, same_part, nothing as nothing_put}
+use Rattle.printing.specs.declared.Around.{Around}
 use Rattle.printing.specs.Lines.{prior_of, Innermost, Enclosed, RowPut, PriorAfter}
 use Rattle.printing.specs.declared.Prior as printing
 use Rattle.printing.specs.declared.Prior.TheVariants as priors
@@ -70,10 +70,10 @@ named_as : (label : List ℕ) (bs : List Block) → Innermost (name_at label (st
 named_as label [] = tt
 named_as label (block k a b ∷ bs) = refl
 
-enclosed : (label : List ℕ) (b : Blocks) (x y : ℕ) → x ≡ start_of (blocks_of b) → y ≡ end_of (blocks_of b) → Enclosed (opens_of label (blocks_of b)) b.depth (map fold (part label x y))
+enclosed : (label : List ℕ) (b : Blocks) (a : Around) → a.depth ≡ b.depth → a.from ≡ start_of (blocks_of b) → a.upto ≡ end_of (blocks_of b) → Enclosed (opens_of label (blocks_of b)) a.depth (map fold (part label a.from a.upto))
 unfolding name_at
-enclosed label b x y e f = record {
-  deep = deep_as label (blocks_of b) ∙ counted b.starts b.ends b.kinds b.depth;
+enclosed label b a d e f = record {
+  deep = deep_as label (blocks_of b) ∙ counted b.starts b.ends b.kinds b.depth ∙ sym d;
   named = rw (e, f) (named_as label (blocks_of b));
 }
 
@@ -118,16 +118,17 @@ pub record Walking (label lent before out : List ℕ) (q : printing.Prior) (b : 
   pub blocks : opens_of label (blocks_of b) ≡ open_after rule.outside (meaning label done)
   pub deep : b.depth ≤ deepest
 
--- the same, with the innermost block's name in hand
-pub record Between (label lent before out : List ℕ) (q : printing.Prior) (b : Blocks) (from upto at n : ℕ) : Type 0 where
-  pub walking : Walking label lent before out q b at n
-  pub start : from ≡ start_of (blocks_of b)
-  pub end : upto ≡ end_of (blocks_of b)
+-- the same, with the depth and the innermost block's name in hand
+pub record Between (label lent before out : List ℕ) (a : Around) (b : Blocks) (at n : ℕ) : Type 0 where
+  pub walking : Walking label lent before out a.prior b at n
+  pub depth : a.depth ≡ b.depth
+  pub start : a.from ≡ start_of (blocks_of b)
+  pub end : a.upto ≡ end_of (blocks_of b)
 
 told_bytes : {label lent : List ℕ} {rows : List rule.Row} → Ruled label lent (proper_rows rows) → lent ≡ table rows
 told_bytes (is_proper e p) = e
 
-starts : (label lent out : List ℕ) (b : Blocks) → length label ≤ longest → Judges label lent checked.Proper → (blocks_of b ≡ []) × (b.depth ≡ 0) → Walking label lent out out priors.Start b 0 0
+starts : (label lent out : List ℕ) (b : Blocks) → length label ≤ longest → Judges label lent (Ok tt) → (blocks_of b ≡ []) × (b.depth ≡ 0) → Walking label lent out out priors.Start b 0 0
 starts label lent out b s (judging.proper rs v) h = record {
   short = s;
   rows = rs;
@@ -146,8 +147,8 @@ starts label lent out b s (judging.proper rs v) h = record {
 }
 
 -- no block is open at the start, so there is no name
-pub begins : (label lent out : List ℕ) (b : Blocks) → length label ≤ longest → Judges label lent checked.Proper → (blocks_of b ≡ []) × (b.depth ≡ 0) → Between label lent out out priors.Start b 0 0 0 0
-begins label lent out b s j h = record { walking = starts label lent out b s j h; start = sym (ap start_of h.0); end = sym (ap end_of h.0) }
+pub begins : (label lent out : List ℕ) (b : Blocks) → length label ≤ longest → Judges label lent (Ok tt) → (blocks_of b ≡ []) × (b.depth ≡ 0) → Between label lent out out (record { prior = priors.Start; depth = 0; from = 0; upto = 0 }) b 0 0
+begins label lent out b s j h = record { walking = starts label lent out b s j h; depth = sym h.1; start = sym (ap start_of h.0); end = sym (ap end_of h.0) }
 
 -- every row's value and span are in order
 each_holds : {P : rule.Row → Type 0} (xs : List rule.Row) (r : rule.Row) (ys : List rule.Row) → Each P (xs ++ (r ∷ ys)) → P r
@@ -188,7 +189,7 @@ module _ {label lent before out : List ℕ} {q : printing.Prior} {b : Blocks} {a
           let c : Codes x = codes label (omega (arith, w.short)) x (each_holds w.done x xs a.values) (each_holds w.done x xs a.spans) in
           record { row = x; later = xs; is = e; proper = p; read = ap decode (w.rest ∙ ap table e) ∙ decode_encode x (table xs) c }
 
-  here : {row : Row} {next : ℕ} → at < length lent → Decodes lent at (Found row next) → Here label lent w.done w.left row next
+  here : {row : Row} {next : ℕ} → at < length lent → Decodes lent at (Some (row, next)) → Here label lent w.done w.left row next
   here {row} {next} h (a_row e l m) =
       let x = reads h in
       let s = got_same (sym x.read ∙ e) in
@@ -202,23 +203,26 @@ module _ {label lent before out : List ℕ} {q : printing.Prior} {b : Blocks} {a
         room = λ k t f. room_to_open w.done x.later k t (subst (λ (z : rule.Row). Proper label (w.done ++ (z ∷ x.later))) f p);
       }
 
-  no_row_left : at < length lent → Decodes lent at Nothing → ⊥
+  no_row_left : at < length lent → Decodes lent at None → ⊥
   no_row_left h (no_row e) = nothing_got (sym e ∙ (reads h).read)
 
-module _ {label lent before out : List ℕ} {q : printing.Prior} {b : Blocks} {x y at n : ℕ} (s : Between label lent before out q b x y at n) where
-  abbrev w : Walking label lent before out q b at n
+module _ {label lent before out : List ℕ} {a : Around} {b : Blocks} {at n : ℕ} (s : Between label lent before out a b at n) where
+  abbrev w : Walking label lent before out a.prior b at n
   w = s.walking
 
-  pub ready : (b.depth ≤ deepest) × (length label ≤ longest)
-  ready = (w.deep, w.short)
+  pub ready : (a.depth ≤ deepest) × (length label ≤ longest)
+  ready = (omega (arith, s.depth, w.deep), w.short)
+
+  pub bounded : b.depth ≤ deepest
+  bounded = w.deep
 
   -- no row is missing from a proper table
-  pub missing : {g : Got} → at < length lent → Decodes lent at g → g ≡ Nothing → PassWrites label lent before out n
+  pub missing : {g : Option (Row × ℕ)} → at < length lent → Decodes lent at g → g ≡ None → PassWrites label lent before out n
   missing h v f = absurd (no_row_left w h (subst (Decodes lent at) f v))
 
-  module _ {g : Got} {row : Row} {next : ℕ} {p : List ℕ} {k m : ℕ} (h : at < length lent) (v : Decodes lent at g) (f : g ≡ Found row next) (ek : k ≡ min n (length out))
-      (put : RowPut label (prior_of q) b.depth (map fold (part label x y)) row (mid_of k (length out - k) out) p m) where
-    abbrev D : Decodes lent at (Found row next)
+  module _ {g : Option (Row × ℕ)} {row : Row} {next : ℕ} {p : List ℕ} {k m : ℕ} (h : at < length lent) (v : Decodes lent at g) (f : g ≡ Some (row, next)) (ek : k ≡ min n (length out))
+      (put : RowPut label (prior_of a.prior) a.depth (map fold (part label a.from a.upto)) row (mid_of k (length out - k) out) p m) where
+    abbrev D : Decodes lent at (Some (row, next))
     D = subst (Decodes lent at) f v
 
     abbrev H : Here label lent w.done w.left row next
@@ -229,12 +233,12 @@ module _ {label lent before out : List ℕ} {q : printing.Prior} {b : Blocks} {x
 
     after_row : Puts (so_far (meaning label (w.done ++ (row_of row ∷ [])))) before (put_mid k (length out - k) out p) (n + m)
     after_row =
-        let a : Puts (writes (prior_of q) (opens_of label (blocks_of b)) S) (mid_of k (length out - k) out) p m = put.puts (opens_of label (blocks_of b)) (enclosed label b x y s.start s.end) in
-        let e : writes (prior_of q) (opens_of label (blocks_of b)) S ≡ writes (leaves start (meaning label w.done)) (open_after rule.outside (meaning label w.done)) S =
+        let u : Puts (writes (prior_of a.prior) (opens_of label (blocks_of b)) S) (mid_of k (length out - k) out) p m = put.puts (opens_of label (blocks_of b)) (enclosed label b a s.depth s.start s.end) in
+        let e : writes (prior_of a.prior) (opens_of label (blocks_of b)) S ≡ writes (leaves start (meaning label w.done)) (open_after rule.outside (meaning label w.done)) S =
         ap₂ (λ (u : Prior) (o : rule.Opens). writes u o S) w.prior w.blocks in
         let i : so_far (meaning label w.done) ++ writes (leaves start (meaning label w.done)) (open_after rule.outside (meaning label w.done)) S ≡ so_far (meaning label (w.done ++ (row_of row ∷ []))) =
         sym (row_more (meaning label w.done) S) ∙ ap so_far (sym (means_append label w.done (row_of row ∷ []))) in
-        same_part i (onward w.puts ek (same_part e a))
+        same_part i (onward w.puts ek (same_part e u))
 
     -- too long already
     pub over : longest < n + m → PassWrites label lent before (put_mid k (length out - k) out p) (n + m)
@@ -275,18 +279,18 @@ module _ {label lent before out : List ℕ} {q : printing.Prior} {b : Blocks} {x
     }
 
     -- the open blocks stay, or are others
-    pub again_plain : {q' : printing.Prior} {r : Bool} → n + m ≤ longest → PriorAfter row (prior_of q') → Nests row r → not r ≡ true → Between label lent before (put_mid k (length out - k) out p) q' b x y next (n + m)
-    again_plain z l t e = record { walking = again z l (not_nested w.deep t e); start = s.start; end = s.end }
+    pub again_plain : {q' : printing.Prior} {r : Bool} → n + m ≤ longest → PriorAfter row (prior_of q') → Nests row r → not r ≡ true → Between label lent before (put_mid k (length out - k) out p) (record { prior = q'; depth = a.depth; from = a.from; upto = a.upto }) b next (n + m)
+    again_plain z l t e = record { walking = again z l (not_nested w.deep t e); depth = s.depth; start = s.start; end = s.end }
 
     pub again_nested : {q' : printing.Prior} {b' : Blocks} {x' y' : ℕ} → n + m ≤ longest → PriorAfter row (prior_of q') → BlocksAfter b row b' → x' ≡ start_of (blocks_of b') → y' ≡ end_of (blocks_of b') →
-        Between label lent before (put_mid k (length out - k) out p) q' b' x' y' next (n + m)
-    again_nested z l t e i = record { walking = again z l t; start = e; end = i }
+        Between label lent before (put_mid k (length out - k) out p) (record { prior = q'; depth = b'.depth; from = x'; upto = y' }) b' next (n + m)
+    again_nested z l t e i = record { walking = again z l t; depth = refl; start = e; end = i }
 
     pub nearer : length lent - next < length lent - at
     nearer = omega (arith, (row_there v f).further)
 
 -- all rows are written: the last line's end
-pub ends : {label lent before out : List ℕ} {q : printing.Prior} {b : Blocks} {x y at n : ℕ} → Between label lent before out q b x y at n → length lent ≤ at → {p : List ℕ} {k m : ℕ} → k ≡ min n (length out) →
+pub ends : {label lent before out : List ℕ} {a : Around} {b : Blocks} {at n : ℕ} → Between label lent before out a b at n → length lent ≤ at → {p : List ℕ} {k m : ℕ} → k ≡ min n (length out) →
     Puts (13 ∷ 10 ∷ []) (mid_of k (length out - k) out) p m → PassWrites label lent before (put_mid k (length out - k) out p) (n + m)
 ends {label} {lent} {before} {out} {n = n} s h {p} {k} {m} ek put =
     let w = s.walking in

@@ -3,14 +3,14 @@ use mathlib.Core.Path.{refl}
 use Rattle.book.proofs.Answers.{full_fits, full_refused, full_short, full_full}
 use Rattle.book.proofs.take_full.Goals as goal
 
-pub returns-then-code-eq0 : goal.returns-then-code-eq0
-returns-then-code-eq0 c = full_fits refl c.read-r.ensures c.code_of-code.ensures c.if-code-eq0.true c.book_full.ensures
+pub returns-in_default : goal.returns-in_default
+returns-in_default c = full_fits _ refl c.in_default.ensures
 
-pub returns-then-code-ne-NO_ROOM : goal.returns-then-code-ne-NO_ROOM
-returns-then-code-ne-NO_ROOM c = full_refused refl c.read-r.ensures c.code_of-code.ensures c.if-code-eq0.false c.if-code-ne-NO_ROOM.true c.refused.ensures
+pub returns-then-a-room : goal.returns-then-a-room
+returns-then-a-room c = full_full _ c.in-Err.ensures c.in-NoRoom.is c.if-a-room.true
 
-pub returns-then-room-length_of : goal.returns-then-room-length_of
-returns-then-room-length_of c = full_short refl c.read-r.ensures c.code_of-code.ensures c.if-code-ne-NO_ROOM.false c.length_of.ensures c.if-room-length_of.true c.refused-then-room-length_of.ensures
+pub returns-else-a-room : goal.returns-else-a-room
+returns-else-a-room c = full_short _ c.in-Err.ensures c.in-NoRoom.is c.if-a-room.false
 
-pub returns : goal.returns
-returns c = full_full refl c.read-r.ensures c.code_of-code.ensures c.if-code-ne-NO_ROOM.false c.length_of.ensures c.if-room-length_of.false c.book_full-2.ensures
+pub returns-in_default-r : goal.returns-in_default-r
+returns-in_default-r c = full_refused _ c.in-Err.ensures c.in_default-r.not-NoRoom

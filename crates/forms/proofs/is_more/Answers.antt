@@ -5,11 +5,11 @@ use Rattle.forms.proofs.is_more.Goals as goal
 
 ruleset ways = (going, plain_turn, under_turn, other_byte, two_unders, gone, rules)
 
-pub loop-i-init : goal.loop-i-init
-loop-i-init c = search ways
+pub loop-b-init : goal.loop-b-init
+loop-b-init c = search ways
 
-pub loop-i-preserved-then-is_alnum : goal.loop-i-preserved-then-is_alnum
-loop-i-preserved-then-is_alnum c = search ways
+pub loop-b-preserved-then-is_alnum : goal.loop-b-preserved-then-is_alnum
+loop-b-preserved-then-is_alnum c = search ways
 
 pub returns-then-b-ne95 : goal.returns-then-b-ne95
 returns-then-b-ne95 c = search ways
@@ -17,8 +17,8 @@ returns-then-b-ne95 c = search ways
 pub returns-then-under : goal.returns-then-under
 returns-then-under c = search ways
 
-pub loop-i-preserved : goal.loop-i-preserved
-loop-i-preserved c = search ways
+pub loop-b-preserved : goal.loop-b-preserved
+loop-b-preserved c = search ways
 
 pub returns : goal.returns
 returns c = search ways

@@ -3,7 +3,7 @@ use borrow.Author.Rules.{rules}
 use Rattle.forms.proofs.First.{letter_there, sign_laid, shape_name, shape_unnamed, sign_there, shape_number}
 use Rattle.forms.proofs.shape.Goals as goal
 
-ruleset ways = (sign_laid, letter_there, shape_name, shape_unnamed, sign_there, shape_number, rules)
+ruleset ways = (letter_there, sign_laid, shape_name, shape_unnamed, sign_there, shape_number, rules)
 
 pub returns-then-is_more : goal.returns-then-is_more
 returns-then-is_more c = search ways

@@ -1,15 +1,13 @@
 -- How many bytes a sign is.
 use borrow.Author.Rules.{rules}
-use Rattle.forms.specs.Forms.{minus, plus, unsigned}
+use Rattle.forms.specs.Forms.{plus, minus, unsigned}
+use Rattle.forms.proofs.Places.{a_sign}
 use Rattle.forms.proofs.sign_length.Goals as goal
 
-ruleset ways = (minus, plus, unsigned, rules)
+ruleset ways = (plus, minus, unsigned, a_sign, rules)
 
-pub returns-then-b-eq45 : goal.returns-then-b-eq45
-returns-then-b-eq45 c = search ways
+pub returns-in-45 : goal.returns-in-45
+returns-in-45 c = search ways
 
-pub returns-then-b-eq43 : goal.returns-then-b-eq43
-returns-then-b-eq43 c = search ways
-
-pub returns : goal.returns
-returns c = search ways
+pub returns-in_default : goal.returns-in_default
+returns-in_default c = search ways

@@ -1,12 +1,9 @@
 -- `value_of` meets its contract.
 use borrow.Author.Rules.{rules}
-use Rattle.words.proofs.Words.{short_part, date_digits, time_digits, formless_word, name_word, whole_word, radix_word, decimal_word, date_word, time_word}
+use Rattle.words.proofs.Words.{short_part, date_digits, time_digits, name_word, whole_word, radix_word, decimal_word, date_word, time_word}
 use Rattle.words.proofs.value_of.Goals as goal
 
-ruleset ways = (short_part, date_digits, time_digits, formless_word, name_word, whole_word, radix_word, decimal_word, date_word, time_word, rules)
-
-pub returns-in-NoForm : goal.returns-in-NoForm
-returns-in-NoForm c = search ways
+ruleset ways = (short_part, date_digits, time_digits, name_word, whole_word, radix_word, decimal_word, date_word, time_word, rules)
 
 pub returns-in-Name : goal.returns-in-Name
 returns-in-Name c = search ways

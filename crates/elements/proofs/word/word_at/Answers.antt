@@ -5,29 +5,29 @@ use Rattle.elements.proofs.word.word_at.Goals as goal
 
 ruleset ways = (word_name, word_end, word_fixed, word_integer, word_based, word_float, word_time, word_past, word_formless, rules)
 
-pub returns-in-Name : goal.returns-in-Name
-returns-in-Name c = search ways
+pub returns-in-Ok-Name : goal.returns-in-Ok-Name
+returns-in-Ok-Name c = search ways
 
-pub returns-in-End : goal.returns-in-End
-returns-in-End c = search ways
+pub returns-in-Ok-End : goal.returns-in-Ok-End
+returns-in-Ok-End c = search ways
 
-pub returns-in-The : goal.returns-in-The
-returns-in-The c = search ways
+pub returns-in-Ok-The : goal.returns-in-Ok-The
+returns-in-Ok-The c = search ways
 
-pub returns-in-Integer : goal.returns-in-Integer
-returns-in-Integer c = search ways
+pub returns-in-Ok-Integer : goal.returns-in-Ok-Integer
+returns-in-Ok-Integer c = search ways
 
-pub returns-in-Based : goal.returns-in-Based
-returns-in-Based c = search ways
+pub returns-in-Ok-Based : goal.returns-in-Ok-Based
+returns-in-Ok-Based c = search ways
 
-pub returns-in-Float : goal.returns-in-Float
-returns-in-Float c = search ways
+pub returns-in-Ok-Float : goal.returns-in-Ok-Float
+returns-in-Ok-Float c = search ways
 
-pub returns-in-Time : goal.returns-in-Time
-returns-in-Time c = search ways
+pub returns-in-Ok-Time : goal.returns-in-Ok-Time
+returns-in-Ok-Time c = search ways
 
-pub returns-in-Past : goal.returns-in-Past
-returns-in-Past c = search ways
+pub returns-in-Err-PastLimit : goal.returns-in-Err-PastLimit
+returns-in-Err-PastLimit c = search ways
 
-pub returns-in-NoForm : goal.returns-in-NoForm
-returns-in-NoForm c = search ways
+pub returns-in-Err-NoForm : goal.returns-in-Err-NoForm
+returns-in-Err-NoForm c = search ways

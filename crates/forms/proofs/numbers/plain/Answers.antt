@@ -1,10 +1,11 @@
 -- What only digits with no sign begin, answer by answer.
 use borrow.Author.Rules.{rules}
-use Rattle.forms.specs.Laid.{behind, radix_to, undated_to, hour_to}
+use Rattle.forms.specs.Laid.{behind, radix_to}
+use Rattle.forms.proofs.Places.{first_hour}
 use Rattle.forms.proofs.Numerals.{plain_no_radix, plain_based, plain_no_hour, plain_time, plain_other, plain_no_year, plain_date}
 use Rattle.forms.proofs.numbers.plain.Goals as goal
 
-ruleset ways = (behind, radix_to, undated_to, hour_to, plain_no_radix, plain_based, plain_no_hour, plain_time, plain_other, plain_no_year, plain_date, rules)
+ruleset ways = (behind, radix_to, first_hour, plain_no_radix, plain_based, plain_no_hour, plain_time, plain_other, plain_no_year, plain_date, rules)
 
 pub returns-then-at-eq0 : goal.returns-then-at-eq0
 returns-then-at-eq0 c = search ways
@@ -12,8 +13,8 @@ returns-then-at-eq0 c = search ways
 pub returns-then-b-eq35 : goal.returns-then-b-eq35
 returns-then-b-eq35 c = search ways
 
-pub returns-then-not-counts : goal.returns-then-not-counts
-returns-then-not-counts c = search ways
+pub returns-in_err-hour : goal.returns-in_err-hour
+returns-in_err-hour c = let q = c.in_err-hour.was in search ways
 
 pub returns-then-b-eq58 : goal.returns-then-b-eq58
 returns-then-b-eq58 c = search ways

@@ -15,4 +15,4 @@ pub returns-then-e-w : goal.returns-then-e-w
 returns-then-e-w c = search ways
 
 pub returns : goal.returns
-returns c = radix_ends c.args.w.now c.args.radix c.args.neg c.args.at _ c.alnum_end-e.ensures c.if-e-at.false _ c.byte_at.ensures c.requires.based_to c.if-byte_at-ne35.false c.if-e-w.false
+returns c = radix_ends c.args.w.now c.args.radix c.args.neg c.args.at _ c.run_end-e.ensures c.if-e-at.false _ c.byte_at.ensures c.requires.based_to c.if-byte_at-ne35.false c.if-e-w.false

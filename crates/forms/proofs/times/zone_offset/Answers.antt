@@ -1,24 +1,25 @@
 -- An offset, answer by answer.
 use borrow.Author.Rules.{rules}
+use Rattle.forms.proofs.Places.{digits_within}
 use Rattle.forms.proofs.Stamps.{offset_few, offset_hour, offset_open, offset_minute, offset_trailing, offset_both}
 use Rattle.forms.proofs.times.zone_offset.Goals as goal
 
-ruleset ways = (offset_hour, offset_both, rules)
+ruleset ways = (digits_within, offset_few, offset_hour, offset_open, offset_minute, offset_trailing, offset_both, rules)
 
-pub returns-then-not-counts : goal.returns-then-not-counts
-returns-then-not-counts c = offset_few c.args.w.now c.args.stamp c.args.clock _ _ _ _ c.digits_end-e.ensures c.counts.ensures c.if-not-counts.true-raw
+pub returns-in_err-hours : goal.returns-in_err-hours
+returns-in_err-hours c = offset_few c.args.w.now c.args.stamp c.args.clock c.args.west c.args.at _ c.digits.ensures _ c.in_err-hours.was c.from_residual.ensures
 
-pub returns-then-e-w : goal.returns-then-e-w
-returns-then-e-w c = search ways
+pub returns-then-hours-w : goal.returns-then-hours-w
+returns-then-hours-w c = let q = c.in_ok-hours.was in search ways
 
 pub returns-then-byte_at-ne58 : goal.returns-then-byte_at-ne58
-returns-then-byte_at-ne58 c = offset_open c.args.w.now c.args.stamp c.args.clock _ _ _ _ _ c.digits_end-e.ensures c.counts.ensures c.if-not-counts.false-raw c.if-e-w.false c.byte_at.ensures c.if-byte_at-ne58.true
+returns-then-byte_at-ne58 c = offset_open c.args.w.now c.args.stamp c.args.clock c.args.west c.args.at _ c.digits.ensures c.in_ok-hours.hours c.in_ok-hours.was c.if-hours-w.false _ c.byte_at.ensures c.if-byte_at-ne58.true
 
-pub returns-then-not-counts-2 : goal.returns-then-not-counts-2
-returns-then-not-counts-2 c = offset_minute c.args.w.now c.args.stamp c.args.clock _ _ _ _ _ _ _ c.digits_end-e.ensures c.counts.ensures c.if-not-counts.false-raw c.if-e-w.false c.byte_at.ensures c.if-byte_at-ne58.false c.digits_end-f.ensures c.counts-2.ensures c.if-not-counts-2.true-raw
+pub returns-in_err-minutes : goal.returns-in_err-minutes
+returns-in_err-minutes c = offset_minute c.args.w.now c.args.stamp c.args.clock c.args.west c.args.at _ c.digits.ensures c.in_ok-hours.hours c.in_ok-hours.was c.if-hours-w.false _ c.byte_at.ensures c.if-byte_at-ne58.false _ c.digits-2.ensures _ c.in_err-minutes.was c.from_residual-in_err-minutes.ensures
 
-pub returns-then-f-w : goal.returns-then-f-w
-returns-then-f-w c = offset_trailing c.args.w.now c.args.stamp c.args.clock _ _ _ _ _ _ _ c.digits_end-e.ensures c.counts.ensures c.if-not-counts.false-raw c.if-e-w.false c.byte_at.ensures c.if-byte_at-ne58.false c.digits_end-f.ensures c.counts-2.ensures c.if-not-counts-2.false-raw c.if-f-w.true
+pub returns-then-minutes-w : goal.returns-then-minutes-w
+returns-then-minutes-w c = offset_trailing c.args.w.now c.args.stamp c.args.clock c.args.west c.args.at _ c.digits.ensures c.in_ok-hours.hours c.in_ok-hours.was c.if-hours-w.false _ c.byte_at.ensures c.if-byte_at-ne58.false _ c.digits-2.ensures c.in_ok-minutes.minutes c.in_ok-minutes.was c.if-minutes-w.true
 
 pub returns : goal.returns
-returns c = search ways
+returns c = let q = c.in_ok-hours.was in let p = c.in_ok-minutes.was in search ways

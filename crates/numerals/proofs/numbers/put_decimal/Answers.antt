@@ -4,4 +4,4 @@ use native.Mathlib.Omega.{arith}
 use Rattle.numerals.proofs.numbers.put_decimal.Goals as goal
 
 pub returns : goal.returns
-returns c = (onward c.put_sign-a.ensures.0 c.least-k.ensures c.put_digits-m.ensures.0, omega arith)
+returns c = (onward c.put_sign-a.ensures.0 c.min-k.ensures c.put_digits.ensures.0, omega arith)

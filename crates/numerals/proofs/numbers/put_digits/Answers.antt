@@ -4,4 +4,4 @@ use Rattle.numerals.proofs.RealForms.{counted}
 use Rattle.numerals.proofs.numbers.put_digits.Goals as goal
 
 pub returns : goal.returns
-returns c = (counted c.digit_count-k.ensures c.put_wide.ensures.0, omega arith)
+returns c = (counted c.digit_count.ensures c.put_wide.ensures.0, omega arith)

@@ -7,7 +7,7 @@ use Rattle.numerals.proofs.numbers.put_plain.Goals as goal
 
 pub returns : goal.returns
 returns c = (
-  in_plain _ _ c.without_last-v.ensures
-      (onward_three c.put_digits-a.ensures.0 c.least-k.ensures c.put_byte.ensures c.least-j.ensures c.put_wide-c.ensures.0),
+  rw (← c.from-p.ensures) (in_plain _ _ c.without_last.ensures
+      (onward_three c.put_digits-a.ensures.0 c.min-k.ensures c.put_byte.ensures c.min-j.ensures c.put_wide.ensures.0)),
   omega arith,
 )

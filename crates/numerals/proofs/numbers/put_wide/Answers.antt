@@ -1,7 +1,6 @@
 -- `numbers::put_wide` meets its contract.
-use Rattle.numerals.proofs.Digits.{wide_end}
 use borrow.Author.Rules.{rules}
-use Rattle.numerals.proofs.Digits.{wide_start, wide_turn}
+use Rattle.numerals.proofs.Digits.{wide_start, wide_turn, wide_end}
 use Rattle.numerals.proofs.numbers.put_wide.Goals as goal
 
 ruleset ways = (wide_start, wide_turn, rules)
@@ -13,4 +12,4 @@ pub loop-i-preserved : goal.loop-i-preserved
 loop-i-preserved c = search ways
 
 pub returns : goal.returns
-returns c = wide_end _ _ _ _ _ _ _ c.least-e.ensures c.loop-i.invariant c.loop-i-test.false
+returns c = wide_end _ _ _ _ _ _ _ c.min-e.ensures c.loop-i.invariant c.loop-i-test.false

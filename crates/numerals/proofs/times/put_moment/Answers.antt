@@ -11,4 +11,4 @@ pub returns-then-x-eq2 : goal.returns-then-x-eq2
 returns-then-x-eq2 c = (a_time c.args.x c.if-x-eq1.false c.if-x-eq2.true c.put_time.ensures.0, omega arith)
 
 pub returns : goal.returns
-returns c = (both c.args.x c.if-x-eq1.false c.if-x-eq2.false (onward_three c.put_date-a.ensures.0 c.least-k.ensures c.put_byte.ensures c.least-j.ensures c.put_time-c.ensures.0), omega arith)
+returns c = (both c.args.x c.if-x-eq1.false c.if-x-eq2.false (onward_three c.put_date-a.ensures.0 c.min-k.ensures c.put_byte.ensures c.min-j.ensures c.put_time-2.ensures.0), omega arith)

@@ -5,4 +5,4 @@ use Rattle.numerals.proofs.Moments.{in_time}
 use Rattle.numerals.proofs.times.put_time.Goals as goal
 
 pub returns : goal.returns
-returns c = (in_time c.args.x (onward_three c.put_clock-a.ensures.0 c.least-k.ensures c.put_fraction.ensures.0 c.least-j.ensures c.put_zone-c.ensures.0), omega arith)
+returns c = (in_time c.args.x (onward_three c.put_clock-a.ensures.0 c.min-k.ensures c.put_fraction.ensures.0 c.min-j.ensures c.put_zone.ensures.0), omega arith)

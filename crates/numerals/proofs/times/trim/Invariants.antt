@@ -4,6 +4,3 @@ use Rattle.numerals.proofs.times.trim.Given as goal
 
 abbrev pub invariant-loop-k : goal.invariant-loop-k
 invariant-loop-k l = Trimming l.n l.v l.k
-
-abbrev pub decreases-loop-k : goal.decreases-loop-k
-decreases-loop-k l = l.k

@@ -1,15 +1,10 @@
 -- `bytes::put_bytes` meets its contract.
-use borrow.Author.Rules.{rules}
-use Rattle.output.proofs.Copies.{copy_start, copy_turn, copy_end}
+use Rattle.std.proofs.Common.{arith, refl}
+use Rattle.output.proofs.Copies.{laying_turn, laying_end}
 use Rattle.output.proofs.bytes.put_bytes.Goals as goal
 
-ruleset ways = (copy_start, copy_turn, copy_end, rules)
-
-pub loop-i-init : goal.loop-i-init
-loop-i-init c = search ways
-
 pub loop-i-preserved : goal.loop-i-preserved
-loop-i-preserved c = search ways
+loop-i-preserved c = laying_turn c.args.w.now c.args.out.now c.loop-i.out c.loop-i.i _ c.loop-i.invariant (omega arith) refl
 
 pub returns : goal.returns
-returns c = search ways
+returns c = laying_end c.args.w.now c.args.out.now c.loop-i.out c.loop-i.i c.loop-i.invariant (omega arith)

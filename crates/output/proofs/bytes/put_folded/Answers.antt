@@ -1,15 +1,10 @@
 -- `bytes::put_folded` meets its contract.
-use borrow.Author.Rules.{rules}
-use Rattle.output.proofs.Copies.{folded_start, folded_turn, folded_end}
+use Rattle.std.proofs.Common.{arith}
+use Rattle.output.proofs.Copies.{folded_turn, folded_end}
 use Rattle.output.proofs.bytes.put_folded.Goals as goal
 
-ruleset ways = (folded_start, folded_turn, folded_end, rules)
-
-pub loop-i-init : goal.loop-i-init
-loop-i-init c = search ways
-
 pub loop-i-preserved : goal.loop-i-preserved
-loop-i-preserved c = search ways
+loop-i-preserved c = folded_turn c.args.w.now c.args.out.now c.loop-i.out c.loop-i.i c.folded.result c.loop-i.invariant (omega arith) c.folded.ensures
 
 pub returns : goal.returns
-returns c = folded_end _ _ _ _ _ c.loop-i.invariant c.loop-i-test.false
+returns c = folded_end c.args.w.now c.args.out.now c.loop-i.out c.loop-i.i c.loop-i.invariant (omega arith)

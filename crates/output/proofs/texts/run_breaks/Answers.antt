@@ -5,17 +5,14 @@ use Rattle.output.proofs.texts.run_breaks.Goals as goal
 
 ruleset ways = (breaks_start, breaks_turn, breaks_yes, breaks_no, breaks_past, rules)
 
-pub loop-i-init : goal.loop-i-init
-loop-i-init c = search ways
-
 pub returns-then-is_line_end : goal.returns-then-is_line_end
 returns-then-is_line_end c = search ways
 
 pub returns-then-is_shown : goal.returns-then-is_shown
 returns-then-is_shown c = search ways
 
-pub loop-i-preserved : goal.loop-i-preserved
-loop-i-preserved c = search ways
+pub loop-b-preserved : goal.loop-b-preserved
+loop-b-preserved c = search ways
 
 pub returns : goal.returns
 returns c = search ways

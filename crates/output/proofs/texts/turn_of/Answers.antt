@@ -1,30 +1,28 @@
 -- `texts::turn_of` meets its contract.
 use borrow.Author.Rules.{rules}
-use Rattle.output.proofs.Reassembly.{turned_as, turn_passed, turn_dealt, turn_breaks, turn_unbroken, turn_known, turn_vanish, turn_hyphen, turn_other}
+use Rattle.output.proofs.Reassembly.{turn_passed, turn_dealt, turn_breaks, turn_unbroken, turn_known, turn_vanish, turn_hyphen, turn_other}
 use Rattle.output.proofs.texts.turn_of.Goals as goal
+use Rattle.output.proofs.texts.turn_of.Goals.{else-b-eq45-via-then-b-eq45+else-line_ends, else-b-eq45-via-else-b-eq45}
 
-ruleset ways = (turned_as, turn_passed, turn_dealt, turn_breaks, turn_unbroken, turn_known, turn_vanish, turn_hyphen, turn_other, rules)
+ruleset ways = (turn_passed, turn_dealt, turn_breaks, turn_unbroken, turn_known, turn_vanish, turn_hyphen, turn_other, rules)
 
 pub returns-then-not-is_kept : goal.returns-then-not-is_kept
 returns-then-not-is_kept c = search ways
 
-pub returns-then-dealt : goal.returns-then-dealt
-returns-then-dealt c = search ways
+pub returns-in-Dealt : goal.returns-in-Dealt
+returns-in-Dealt c = search ways
 
-pub returns-then-known : goal.returns-then-known
-returns-then-known c = search ways
+pub returns-in-Unbroken : goal.returns-in-Unbroken
+returns-in-Unbroken c = search ways
 
-pub returns-then-run_breaks : goal.returns-then-run_breaks
-returns-then-run_breaks c = search ways
+pub returns-in-Fresh : goal.returns-in-Fresh
+returns-in-Fresh c = search ways
 
-pub returns-then-is_blank : goal.returns-then-is_blank
-returns-then-is_blank c = search ways
+pub returns-in-Fresh-2 : goal.returns-in-Fresh-2
+returns-in-Fresh-2 c = search ways
 
 pub returns-then-line_ends : goal.returns-then-line_ends
 returns-then-line_ends c = search ways
 
-pub returns-then-b-eq45 : goal.returns-then-b-eq45
-returns-then-b-eq45 c = search ways
-
 pub returns : goal.returns
-returns c = search ways
+returns c = elim c.else-b-eq45.branch [ else-b-eq45-via-then-b-eq45+else-line_ends v ↦ search ways | else-b-eq45-via-else-b-eq45 v ↦ search ways ]

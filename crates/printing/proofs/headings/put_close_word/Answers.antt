@@ -1,10 +1,8 @@
 -- `headings::put_close_word` meets its contract.
+use Rattle.output.proofs.Laws.{onward}
+use native.Mathlib.Omega.{arith}
 use Rattle.printing.proofs.Blocks.{close_is}
-use mathlib.Core.Path.{refl}
 use Rattle.printing.proofs.headings.put_close_word.Goals as goal
 
-pub returns-in-Object : goal.returns-in-Object
-returns-in-Object c = close_is c.in-Object.is c.put_bytes.ensures refl
-
-pub returns-in-Group : goal.returns-in-Group
-returns-in-Group c = close_is c.in-Group.is c.put_bytes-in-Group.ensures refl
+pub returns : goal.returns
+returns c = (close_is c.args.kind (onward c.put_bytes-a.ensures c.min-k.ensures c.put_open_word.ensures.0), omega arith)

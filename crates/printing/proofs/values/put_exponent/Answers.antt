@@ -9,4 +9,4 @@ pub returns-then-is_one : goal.returns-then-is_one
 returns-then-is_one c = (unwritten c.args.minus c.args.n c.is_one.ensures c.if-is_one.true refl refl, omega arith)
 
 pub returns : goal.returns
-returns c = (raised c.args.minus c.args.n c.is_one.ensures c.if-is_one.false (onward c.put_bytes-a.ensures c.least-k.ensures c.put_decimal-m.ensures.0), omega arith)
+returns c = (raised c.args.minus c.args.n c.is_one.ensures c.if-is_one.false (onward c.put_bytes-a.ensures c.min-k.ensures c.put_decimal.ensures.0), omega arith)

@@ -1,10 +1,10 @@
 -- `lookup::seek` meets its contract.
 use borrow.Author.Rules.{rules}
-use Rattle.queries.proofs.Lookups.{seek_starts, seek_cut, seek_found, seek_passes, seek_plain, seek_opens, seek_closes, seek_ends, seek_runs_out}
+use Rattle.queries.proofs.Lookups.{seek_starts, seek_cut, seek_found, seek_passes, seek_plain, seek_opens, seek_stops, seek_runs_out}
 use Rattle.queries.proofs.RowsLeft.{row_within, row_nearer}
 use Rattle.queries.proofs.lookup.seek.Goals as goal
 
-ruleset ways = (seek_starts, seek_cut, seek_found, seek_passes, seek_plain, seek_opens, seek_closes, seek_ends, seek_runs_out, row_within, row_nearer, rules)
+ruleset ways = (seek_starts, seek_cut, seek_found, seek_passes, seek_plain, seek_opens, seek_stops, seek_runs_out, row_within, row_nearer, rules)
 
 pub loop-at-init : goal.loop-at-init
 loop-at-init c = search ways
@@ -26,9 +26,6 @@ loop-at-preserved c = search ways
 
 pub returns-in-Closing : goal.returns-in-Closing
 returns-in-Closing c = search ways
-
-pub returns-in-Ending : goal.returns-in-Ending
-returns-in-Ending c = search ways
 
 pub returns : goal.returns
 returns c = search ways

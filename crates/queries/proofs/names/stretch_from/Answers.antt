@@ -5,8 +5,8 @@ use Rattle.queries.proofs.names.stretch_from.Goals as goal
 
 ruleset ways = (no_name_row, name_row, rules)
 
-pub returns-in-Nothing : goal.returns-in-Nothing
-returns-in-Nothing c = search ways
+pub returns-in-None : goal.returns-in-None
+returns-in-None c = search ways
 
-pub returns-in-Found : goal.returns-in-Found
-returns-in-Found c = search ways
+pub returns-in-Some : goal.returns-in-Some
+returns-in-Some c = search ways

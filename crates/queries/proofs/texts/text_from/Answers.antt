@@ -8,8 +8,8 @@ ruleset ways = (no_text_row, text_shown, text_none, rules)
 pub returns-in_default : goal.returns-in_default
 returns-in_default c = search ways
 
-pub returns-in-Span : goal.returns-in-Span
-returns-in-Span c = search ways
+pub returns-in-Some-text_of : goal.returns-in-Some-text_of
+returns-in-Some-text_of c = search ways
 
-pub returns-in-Nothing : goal.returns-in-Nothing
-returns-in-Nothing c = search ways
+pub returns-in-None : goal.returns-in-None
+returns-in-None c = search ways

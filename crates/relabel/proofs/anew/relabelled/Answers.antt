@@ -3,8 +3,8 @@ use mathlib.Core.Path.{refl}
 use Rattle.relabel.proofs.Composed.{refused_reading, written_anew}
 use Rattle.relabel.proofs.anew.relabelled.Goals as goal
 
-pub returns-then-code-ne0 : goal.returns-then-code-ne0
-returns-then-code-ne0 c = refused_reading _ refl c.read-r.ensures c.code_of-code.ensures c.if-code-ne0.true c.place_of.ensures c.length_of-n.ensures
+pub returns-in-Err : goal.returns-in-Err
+returns-in-Err c = rw (c.code.ensures, c.place.ensures, c.length.ensures) (refused_reading _ _ refl c.in-Err.ensures)
 
-pub returns : goal.returns
-returns c = written_anew refl c.read-r.ensures c.code_of-code.ensures c.if-code-ne0.false c.length_of-n.ensures c.part.ensures.0 c.write-w.ensures c.code_of.ensures c.place_of-2.ensures c.length_of.ensures
+pub returns-in-Ok : goal.returns-in-Ok
+returns-in-Ok c = rw (c.code-in-Ok.ensures, c.place-in-Ok.ensures, c.length-in-Ok.ensures) (written_anew refl c.in-Ok.ensures c.part.ensures.0 c.write-w.ensures)

@@ -3,4 +3,4 @@ use Rattle.rows.proofs.Writing.{onward}
 use Rattle.rows.proofs.shapes.encode_clock.Goals as goal
 
 pub returns : goal.returns
-returns c = onward (onward (onward c.encode_byte-n.ensures c.encode_byte.ensures) c.encode_byte-2.ensures) c.encode_four-j.ensures
+returns c = rw (← c.from.ensures) (onward (onward (onward c.encode_byte-n.ensures c.encode_byte.ensures) c.encode_byte-2.ensures) c.encode_number-j.ensures)

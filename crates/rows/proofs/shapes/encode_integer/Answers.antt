@@ -3,4 +3,4 @@ use Rattle.rows.proofs.Writing.{onward}
 use Rattle.rows.proofs.shapes.encode_integer.Goals as goal
 
 pub returns : goal.returns
-returns c = onward c.encode_byte-n.ensures c.encode_eight-m.ensures
+returns c = onward c.encode_byte-n.ensures c.encode_number-m.ensures

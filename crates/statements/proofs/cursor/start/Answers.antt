@@ -4,4 +4,4 @@ use Rattle.statements.proofs.cursor.start.Goals as goal
 
 pub returns : goal.returns
 returns c = let e = c.standing.ensures in
-    record { state = e.0 ∙ c.first_state.ensures; blocks = e.1 ∙ c.no_blocks.ensures.2; at = e.2; n = e.3 }
+    record { state = e.0; blocks = e.1 ∙ c.no_blocks.ensures.2; at = e.2; n = e.3 }

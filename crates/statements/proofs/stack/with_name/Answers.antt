@@ -2,8 +2,8 @@
 use Rattle.statements.proofs.Opened.{stack}
 use Rattle.statements.proofs.stack.with_name.Goals as goal
 
-pub returns-then-d-eq0 : goal.returns-then-d-eq0
-returns-then-d-eq0 c = search stack
+pub returns-then-b-eq0 : goal.returns-then-b-eq0
+returns-then-b-eq0 c = search stack
 
 pub returns : goal.returns
 returns c = search stack

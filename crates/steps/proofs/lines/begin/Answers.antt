@@ -17,11 +17,8 @@ returns-in-The c = search begins
 pub returns-else-off : goal.returns-else-off
 returns-else-off c = search begins
 
-pub returns-in-Object : goal.returns-in-Object
-returns-in-Object c = search begins
-
-pub returns-in-Group : goal.returns-in-Group
-returns-in-Group c = search begins
+pub returns-in-Some : goal.returns-in-Some
+returns-in-Some c = search begins
 
 pub returns-in_default : goal.returns-in_default
 returns-in_default c = search begins

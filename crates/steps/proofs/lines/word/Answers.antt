@@ -2,26 +2,26 @@
 use Rattle.steps.proofs.Starts.{begins}
 use Rattle.steps.proofs.lines.word.Goals as goal
 
-pub returns-then-c-eq94 : goal.returns-then-c-eq94
-returns-then-c-eq94 c = search begins
+pub returns-then-is_the : goal.returns-then-is_the
+returns-then-is_the c = search begins
 
-pub returns-then-c-eq-OBJECT : goal.returns-then-c-eq-OBJECT
-returns-then-c-eq-OBJECT c = search begins
+pub returns-then-is_the-2 : goal.returns-then-is_the-2
+returns-then-is_the-2 c = search begins
 
-pub returns-then-c-eq-GROUP : goal.returns-then-c-eq-GROUP
-returns-then-c-eq-GROUP c = search begins
+pub returns-then-is_the-3 : goal.returns-then-is_the-3
+returns-then-is_the-3 c = search begins
 
-pub returns-then-c-eq-END_OBJECT : goal.returns-then-c-eq-END_OBJECT
-returns-then-c-eq-END_OBJECT c = search begins
+pub returns-then-is_the-4 : goal.returns-then-is_the-4
+returns-then-is_the-4 c = search begins
 
-pub returns-then-c-eq-END_GROUP : goal.returns-then-c-eq-END_GROUP
-returns-then-c-eq-END_GROUP c = search begins
+pub returns-then-is_the-5 : goal.returns-then-is_the-5
+returns-then-is_the-5 c = search begins
 
-pub returns-in-Outside : goal.returns-in-Outside
-returns-in-Outside c = search begins
+pub returns-in-None : goal.returns-in-None
+returns-in-None c = search begins
 
-pub returns-else-c-eq-END_OBJECT : goal.returns-else-c-eq-END_OBJECT
-returns-else-c-eq-END_OBJECT c = search begins
+pub returns-else-is_the-4 : goal.returns-else-is_the-4
+returns-else-is_the-4 c = search begins
 
-pub returns-else-c-eq-END_GROUP : goal.returns-else-c-eq-END_GROUP
-returns-else-c-eq-END_GROUP c = search begins
+pub returns-else-is_the-5 : goal.returns-else-is_the-5
+returns-else-is_the-5 c = search begins

@@ -2,14 +2,14 @@
 use Rattle.steps.proofs.Ways.{ways}
 use Rattle.steps.proofs.units.after_exponent.Goals as goal
 
-pub returns-then-c-eq42 : goal.returns-then-c-eq42
-returns-then-c-eq42 c = search ways
+pub returns-then-is_the : goal.returns-then-is_the
+returns-then-is_the c = search ways
 
-pub returns-then-c-eq47 : goal.returns-then-c-eq47
-returns-then-c-eq47 c = search ways
+pub returns-then-is_the-2 : goal.returns-then-is_the-2
+returns-then-is_the-2 c = search ways
 
-pub returns-then-c-eq62 : goal.returns-then-c-eq62
-returns-then-c-eq62 c = search ways
+pub returns-then-is_the-3 : goal.returns-then-is_the-3
+returns-then-is_the-3 c = search ways
 
 pub returns : goal.returns
 returns c = search ways

@@ -2,8 +2,8 @@
 use Rattle.steps.proofs.Ways.{ways}
 use Rattle.steps.proofs.values.first_of_set.Goals as goal
 
-pub returns-then-c-eq125 : goal.returns-then-c-eq125
-returns-then-c-eq125 c = search ways
+pub returns-then-is_the : goal.returns-then-is_the
+returns-then-is_the c = search ways
 
 pub returns : goal.returns
 returns c = search ways

@@ -2,11 +2,11 @@
 use Rattle.steps.proofs.Ways.{ways}
 use Rattle.steps.proofs.values.in_sequence.Goals as goal
 
-pub returns-then-c-eq44 : goal.returns-then-c-eq44
-returns-then-c-eq44 c = search ways
+pub returns-then-is_the : goal.returns-then-is_the
+returns-then-is_the c = search ways
 
-pub returns-then-c-eq41 : goal.returns-then-c-eq41
-returns-then-c-eq41 c = search ways
+pub returns-then-is_the-2 : goal.returns-then-is_the-2
+returns-then-is_the-2 c = search ways
 
 pub returns : goal.returns
 returns c = search ways

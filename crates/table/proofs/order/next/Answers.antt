@@ -8,9 +8,6 @@ returns-then-n-eq-UNIT c = search order
 pub returns-then-n-eq-FURTHER_UNIT : goal.returns-then-n-eq-FURTHER_UNIT
 returns-then-n-eq-FURTHER_UNIT c = search order
 
-pub returns-in-Nothing : goal.returns-in-Nothing
-returns-in-Nothing c = search order
-
 pub returns-in-After : goal.returns-in-After
 returns-in-After c = search order
 

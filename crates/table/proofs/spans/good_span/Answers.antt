@@ -11,18 +11,6 @@ returns-in-Pointer c = search spans
 pub returns-in-Open : goal.returns-in-Open
 returns-in-Open c = search spans
 
-pub returns-in-Close : goal.returns-in-Close
-returns-in-Close c = search spans
-
-pub returns-in-Integer : goal.returns-in-Integer
-returns-in-Integer c = search spans
-
-pub returns-in-Float : goal.returns-in-Float
-returns-in-Float c = search spans
-
-pub returns-in-Time : goal.returns-in-Time
-returns-in-Time c = search spans
-
 pub returns-in-Text : goal.returns-in-Text
 returns-in-Text c = search spans
 
@@ -31,18 +19,6 @@ returns-in-Symbol c = search spans
 
 pub returns-in-Unit : goal.returns-in-Unit
 returns-in-Unit c = search spans
-
-pub returns-in-Sequence : goal.returns-in-Sequence
-returns-in-Sequence c = search spans
-
-pub returns-in-SequenceEnd : goal.returns-in-SequenceEnd
-returns-in-SequenceEnd c = search spans
-
-pub returns-in-Set : goal.returns-in-Set
-returns-in-Set c = search spans
-
-pub returns-in-SetEnd : goal.returns-in-SetEnd
-returns-in-SetEnd c = search spans
 
 pub returns-in-Last : goal.returns-in-Last
 returns-in-Last c = search spans

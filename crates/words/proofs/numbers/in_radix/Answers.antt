@@ -11,8 +11,8 @@ returns-then-b-lt2 c = search ways
 pub returns-then-b-gt16 : goal.returns-then-b-gt16
 returns-then-b-gt16 c = search ways
 
-pub returns-then-n : goal.returns-then-n
-returns-then-n c = search ways
+pub returns-in_default : goal.returns-in_default
+returns-in_default c = search ways
 
 pub returns : goal.returns
 returns c = search ways

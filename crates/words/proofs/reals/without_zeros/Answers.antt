@@ -1,18 +1,10 @@
 -- `reals::without_zeros` meets its contract.
-use borrow.Author.Rules.{rules}
-use Rattle.words.proofs.Decimals.{trim_start, trim_turn, trim_stop, trim_end}
+use Rattle.std.proofs.Common.{rules}
+use Rattle.words.proofs.Decimals.{last_digit, no_digit}
 use Rattle.words.proofs.reals.without_zeros.Goals as goal
 
-ruleset ways = (trim_start, trim_turn, trim_stop, trim_end, rules)
+pub returns-in-Some : goal.returns-in-Some
+returns-in-Some c = last_digit c.args.s.now c.in-Some.i (search rules) (λ k l h. search rules) (λ q. search rules)
 
-pub loop-j-init : goal.loop-j-init
-loop-j-init c = search ways
-
-pub returns-then-s-j-ne48 : goal.returns-then-s-j-ne48
-returns-then-s-j-ne48 c = search ways
-
-pub loop-j-preserved : goal.loop-j-preserved
-loop-j-preserved c = search ways
-
-pub returns : goal.returns
-returns c = search ways
+pub returns-in-None : goal.returns-in-None
+returns-in-None c = no_digit c.args.s.now (λ k l h. search rules)

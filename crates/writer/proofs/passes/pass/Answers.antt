@@ -1,9 +1,9 @@
 -- One pass over the rows: what holds between two of them, and each way out.
 use borrow.Author.Rules.{rules}
-use Rattle.writer.proofs.Passing.{begins, ready, missing, over, again_plain, again_nested, nearer, ends}
+use Rattle.writer.proofs.Passing.{begins, ready, bounded, missing, over, again_plain, again_nested, nearer, ends}
 use Rattle.writer.proofs.passes.pass.Goals as goal
 
-ruleset ways = (begins, ready, missing, over, again_plain, again_nested, nearer, ends, rules)
+ruleset ways = (begins, ready, bounded, missing, over, again_plain, again_nested, nearer, ends, rules)
 
 pub loop-at-init : goal.loop-at-init
 loop-at-init c = search ways

@@ -1,9 +1,0 @@
--- `name_start` meets its contract.
-use Rattle.blocks.proofs.Opened.{stack}
-use Rattle.blocks.proofs.name_start.Goals as goal
-
-pub returns-then-d-eq0 : goal.returns-then-d-eq0
-returns-then-d-eq0 c = search stack
-
-pub returns : goal.returns
-returns c = search stack

@@ -1,8 +1,0 @@
--- `spans::byte_at` meets its contract.
-use native.Mathlib.Omega.{arith}
-use mathlib.Core.Path.{sym}
-use lib.ListN.{get_or-eq_default}
-use Rattle.classes.proofs.spans.byte_at.Goals as goal
-
-pub returns-else-i-s : goal.returns-else-i-s
-returns-else-i-s c = record { is = sym (get_or-eq_default c.args.s.now 0 c.if-i-s.false); inside = omega arith }

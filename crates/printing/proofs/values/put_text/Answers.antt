@@ -1,7 +1,0 @@
--- `values::put_text` meets its contract.
-use native.Mathlib.Omega.{arith}
-use Rattle.printing.proofs.Between.{led}
-use Rattle.printing.proofs.values.put_text.Goals as goal
-
-pub returns : goal.returns
-returns c = (led c.args.q c.put_lead-a.ensures.0 c.least-k.ensures c.put_quoted-m.ensures.0, omega arith)

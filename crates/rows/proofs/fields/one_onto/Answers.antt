@@ -1,6 +1,0 @@
--- `fields::one_onto` meets its contract.
-use Rattle.rows.proofs.Octets.{numbers}
-use Rattle.rows.proofs.fields.one_onto.Goals as goal
-
-pub returns : goal.returns
-returns c = search numbers
