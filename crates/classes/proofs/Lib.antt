@@ -1,6 +1,5 @@
 -- What the proofs of this crate share.
 pub mod Runs
-pub mod Found
 pub mod Parts
 pub mod Folds
 pub mod Once

@@ -1,5 +1,5 @@
 // Classes of bytes as types, and where a run of a class ends: one function for every class.
-ghost use Rattle.std.specs.Prelude.{◌≡◌, ℕ, Bool, not, ◌≤◌, length, position};
+ghost use Rattle.std.specs.Prelude.{◌≡◌, ℕ, Bool, not, ◌≤◌, length};
 ghost use Rattle.rules.specs.Bytes.{front, digit, alnum, word_byte, line_end};
 ghost use Rattle.rules.proofs.Machine.Checks.{text_byte, symbol_byte};
 ghost use Rattle.classes.specs.Places.{EndsAt};
@@ -74,20 +74,16 @@ impl Class for InLine {
     }
 }
 
-// Where the first byte is that is not of a class.
-fn first_outside<C: Class>(s: &[u8]) -> Option<usize>
-    ensures { result ≡ position (λ b. not (C.holds b)) s.now }
-{
-    s.iter().position(|b| !C::holds(*b))
-}
-
 // Where the bytes of a class from a place on end.
+#[inline(never)]
 pub fn run_end<C: Class>(s: &[u8], at: usize) -> usize
     requires { at ≤ length s.now }
     ensures { EndsAt (front C.holds) s.now at result }
 {
-    match first_outside::<C>(&s[at..]) {
-        Some(n) => at + n,
-        None => s.len(),
+    for i in at..s.len() {
+        if !C::holds(s[i]) {
+            return i;
+        }
     }
+    s.len()
 }

@@ -91,5 +91,9 @@ pub fn is_lower(b: u8) -> bool
 pub fn folded(b: u8) -> u8
     ensures { result ≡ fold b }
 {
-    b.to_ascii_uppercase()
+    if is_lower(b) {
+        b.to_ascii_uppercase()
+    } else {
+        b
+    }
 }

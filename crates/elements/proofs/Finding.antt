@@ -1,5 +1,6 @@
 -- The next element, in the rules' terms.
 use Prim.Native.Nat.{ℕ, ◌+◌, ◌-◌, ◌≤◌, ◌<◌}
+use Rattle.std.specs.Prelude.{Option, Some, None, Result, Ok, Err}
 use mathlib.Core.Path.{◌≡◌, refl, sym, ap, subst, ◌∙◌}
 use mathlib.Core.List.{List, [], ◌++◌, append-nil}
 use native.Mathlib.Omega.{arith}
@@ -11,7 +12,7 @@ use Rattle.rules.proofs.Machine.Elements.{comes, faulty, none_left, NextIs, find
 use Rattle.classes.specs.Places.{part, as_span}
 use Rattle.elements.specs.Faults.{code_of}
 use Rattle.elements.specs.Places.{GapEnds, GapBroken}
-use Rattle.elements.specs.Next.{placed_of, place_of, ElementAt, FaultAt, ElementNext, FaultNext}
+use Rattle.elements.specs.Next.{placed_of, place_of, ElementAt, FaultAt, Stands, ElementNext, FaultNext, NextAt}
 use Rattle.elements.specs.declared.Element.{Element}
 use Rattle.elements.specs.declared.Found.{Found}
 use Rattle.elements.specs.declared.Broken.{Broken}
@@ -72,11 +73,10 @@ fault_behind l from at b h g e =
     subst (λ (n : ℕ). n < length l → Fault base (drop n l) (code_of b.0) → from ≤ n → Gap base (part l from n) (drop n l) → FaultNext l from b) e.place
     (λ w f k i. record { behind = k; within = w; is = faulty_is l from b.1 (code_of b.0) k i f }) e.within e.is h g
 
-pub element_next : (l : List ℕ) (from at : ℕ) (f : Found) → GapEnds l from at → ElementAt l at f → ElementNext l from f
-element_next l from at f g e = element_behind l from at f g.onward g.is e
-
-pub fault_next : (l : List ℕ) (from at : ℕ) (b : Broken) → GapEnds l from at → FaultAt l at b → FaultNext l from b
-fault_next l from at b g e = fault_behind l from at b g.onward g.is e
+pub stands_next : (l : List ℕ) (from at : ℕ) (r : Result (Option Found) Broken) → from ≤ at → Gap base (part l from at) (drop at l) → Stands l at r → NextAt l from r
+stands_next l from at (Ok (Some f)) h g e = element_behind l from at f h g e
+stands_next l from at (Ok None) h g e = none_is l from at h e g
+stands_next l from at (Err b) h g e = fault_behind l from at b h g e
 
 pub gap_broken : (l : List ℕ) (from : ℕ) (b : Broken) → GapBroken l from b → FaultNext l from b
 gap_broken l from b g = record {
@@ -85,5 +85,6 @@ gap_broken l from b g = record {
   is = faulty_is l from b.1 (code_of b.0) g.onward g.is g.broken.is;
 }
 
-pub nothing_next : (l : List ℕ) (from at : ℕ) → GapEnds l from at → at ≡ length l → NextIs base (drop from l) none_left
-nothing_next l from at g h = none_is l from at g.onward h g.is
+-- behind the gap that was passed
+pub next_found : (l : List ℕ) (from at : ℕ) (r : Result (Option Found) Broken) → GapEnds l from at → Stands l at r → NextAt l from r
+next_found l from at r g e = stands_next l from at r g.onward g.is e

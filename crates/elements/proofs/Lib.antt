@@ -5,4 +5,5 @@ pub mod Finding
 pub mod Quoted
 pub mod Signs
 pub mod Words
+pub mod Comments
 pub mod Once

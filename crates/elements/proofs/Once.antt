@@ -1,6 +1,7 @@
 -- The next element is one: the answer of `next` is a function of what the rules find from the place on. So are those of the functions that it is made of.
 use Prim.Native.Nat.{ℕ, ◌+◌, ◌-◌, ◌≤◌}
-use mathlib.Core.Bool.{Bool, false, cond, true≢false}
+use mathlib.Core.Bool.{Bool, true, false, cond, ◌||◌, true≢false}
+use mathlib.Core.Option as math
 use Rattle.std.specs.Prelude.{Option, Some, None, Result, Ok, Err}
 use mathlib.Core.Path.{◌≡◌, refl, sym, ap, ap₂, subst, ◌∙◌}
 use mathlib.Core.List.{List, [], ◌++◌, append-nil}
@@ -10,7 +11,7 @@ use lib.ListN.{length, drop, length-drop}
 use Rattle.rules.specs.Bytes.{front, pair}
 use Rattle.rules.specs.Data as rule
 use Rattle.rules.specs.Modes.{base}
-use Rattle.rules.specs.Elements.{is_blank, comment, Gap, no_gap, blank, remark, placed, Fault, Breaks, open_at_end, open_at, foreign}
+use Rattle.rules.specs.Elements.{is_blank, sign_of, comment, Gap, no_gap, blank, remark, placed, Fault, Breaks, open_at_end, open_at, foreign}
 use Rattle.rules.proofs.Machine.Elements as next
 use Rattle.rules.proofs.Machine.Elements.{comes, faulty, none_left, NextIs, finds, faults, ends, next_element}
 use Rattle.rules.proofs.Elements.Next.{next_sound, next_complete}
@@ -18,8 +19,10 @@ use Rattle.classes.specs.Places.{part}
 use Rattle.classes.proofs.Runs.{joined}
 use Rattle.words.proofs.Once.{fixed_is, fixed_back, real_of_lem, moment_of_lem}
 use Rattle.elements.specs.Faults.{code_of}
-use Rattle.elements.specs.Next.{placed_of, Stands, NextAt}
-use Rattle.elements.specs.Places.{Clear, Skipped}
+use Rattle.elements.specs.Next.{placed_of, Stands, inside, NextAt}
+use Rattle.elements.specs.Places.{Clear, Skipped, MarkOf, m_sign, m_star, m_slash, m_quote, m_apostrophe, m_nothing}
+use Rattle.elements.specs.declared.marks.Mark.{Mark}
+use Rattle.elements.specs.declared.marks.Mark.TheVariants.{One, Asterisk, Stroke, Quote, Apostrophe}
 use Rattle.elements.specs.declared.Broken.{Broken}
 use Rattle.elements.specs.declared.Fault as code
 use Rattle.elements.specs.declared.Fault.TheVariants.{ForeignByte, LeftOpen, NoForm, PastLimit}
@@ -28,7 +31,7 @@ use Rattle.elements.specs.declared.Element.TheVariants.{Name, The, End, Integer,
 use Rattle.elements.specs.declared.Found.{Found}
 use Rattle.classes.proofs.Parts.{part_length, part_nil}
 use Rattle.elements.proofs.Pairs.{two}
-use Rattle.elements.proofs.Finding.{faulty_is, none_is, element_behind, fault_behind}
+use Rattle.elements.proofs.Finding.{faulty_is, none_is, stands_next}
 
 -- the code's element for one of the rules with its place; Text for a range, which no word of a label is
 abbrev element_is : rule.Placed → Element
@@ -95,24 +98,22 @@ module _ (label : List ℕ) (from : ℕ) where
 pub next_once : (label : List ℕ) (from : ℕ) (r r' : Result (Option Found) Broken) → NextAt label from r → NextAt label from r' → r ≡ r'
 next_once label from r r' x y = sym (next_is label from r x) ∙ next_is label from r' y
 
--- what stands at a place, as the next element
-abbrev alone : Result Found Broken → Result (Option Found) Broken
-alone (Ok f) = Ok (Some f)
-alone (Err b) = Err b
-
-alone_once : (r r' : Result Found Broken) → alone r ≡ alone r' → r ≡ r'
-alone_once (Ok f) (Ok f') e = cc
-alone_once (Ok f) (Err b) e = cc
-alone_once (Err b) (Ok f) e = cc
-alone_once (Err b) (Err b') e = cc
-
 -- what stands at a place is the next element from there on
-stands_next : (label : List ℕ) (at : ℕ) (r : Result Found Broken) → Stands label at r → NextAt label at (alone r)
-stands_next label at (Ok f) e = element_behind label at at f (omega arith) (rw (part_nil label at) no_gap) e
-stands_next label at (Err b) e = fault_behind label at at b (omega arith) (rw (part_nil label at) no_gap) e
+pub stands_once : (label : List ℕ) (at : ℕ) (r r' : Result (Option Found) Broken) → Stands label at r → Stands label at r' → r ≡ r'
+stands_once label at r r' x y = next_once label at r r' (alone r x) (alone r' y)
+  where
+    alone : (r : Result (Option Found) Broken) → Stands label at r → NextAt label at r
+    alone r = stands_next label at at r (omega arith) (rw (part_nil label at) no_gap)
 
-pub stands_once : (label : List ℕ) (at : ℕ) (r r' : Result Found Broken) → Stands label at r → Stands label at r' → r ≡ r'
-stands_once label at r r' x y = alone_once r r' (next_once label at (alone r) (alone r') (stands_next label at r x) (stands_next label at r' y))
+inside_back : (r r' : Result Found Broken) → inside r ≡ inside r' → r ≡ r'
+inside_back (Ok f) (Ok f') e = cc
+inside_back (Ok f) (Err b) e = cc
+inside_back (Err b) (Ok f) e = cc
+inside_back (Err b) (Err b') e = cc
+
+-- what is asked inside the label alone has one answer too
+pub inside_once : (label : List ℕ) (at : ℕ) (r r' : Result Found Broken) → Stands label at (inside r) → Stands label at (inside r') → r ≡ r'
+inside_once label at r r' x y = inside_back r r' (stands_once label at (inside r) (inside r') x y)
 
 -- ---- gaps
 
@@ -170,6 +171,31 @@ module _ (label : List ℕ) (from : ℕ) where
 
 pub skipped_once : (label : List ℕ) (from : ℕ) (r r' : Result ℕ Broken) → Skipped label from r → Skipped label from r' → r ≡ r'
 skipped_once label from r r' x y = sym (skip_is label from r x) ∙ skip_is label from r' y
+
+-- ---- marks
+
+-- the mark of a byte, and of the sign that it is
+abbrev mark_of_lem : ℕ → math.Option rule.Fixed → Option Mark
+mark_of_lem b (math.some f) = Some (One (fixed_is f))
+mark_of_lem b math.none = cond (eqb b 42) (Some Asterisk) (cond (eqb b 47) (Some Stroke) (cond (eqb b 34) (Some Quote) (cond (eqb b 39) (Some Apostrophe) None)))
+
+none_of : (s t u v : Bool) → (s || (t || (u || (v || false)))) ≡ false → cond s (Some Asterisk) (cond t (Some Stroke) (cond u (Some Quote) (cond v (Some Apostrophe) None))) ≡ None
+none_of true t u v h = absurd (true≢false h)
+none_of false true u v h = absurd (true≢false h)
+none_of false false true v h = absurd (true≢false h)
+none_of false false false true h = absurd (true≢false h)
+none_of false false false false h = refl
+
+mark_is : {b : ℕ} {m : Option Mark} → MarkOf b m → mark_of_lem b (sign_of base b) ≡ m
+mark_is {b} (m_sign {s} h) = ap (mark_of_lem b) h ∙ ap (λ f. Some (One f)) (fixed_back s)
+mark_is (m_star h) = rw h
+mark_is (m_slash h) = rw h
+mark_is (m_quote h) = rw h
+mark_is (m_apostrophe h) = rw h
+mark_is {b} (m_nothing h o) = ap (mark_of_lem b) h ∙ none_of (eqb b 42) (eqb b 47) (eqb b 34) (eqb b 39) o
+
+pub mark_once : {b : ℕ} {m m' : Option Mark} → MarkOf b m → MarkOf b m' → m ≡ m'
+mark_once x y = sym (mark_is x) ∙ mark_is y
 
 -- ---- breaks
 

@@ -2,6 +2,7 @@
 use Prim.Native.Nat.{ℕ, ◌+◌, ◌≤◌, ◌<◌}
 use mathlib.Core.Bool.{Bool, false, and-false}
 use mathlib.Core.Option.{some}
+use Rattle.std.specs.Prelude.{Option, Some, None}
 use mathlib.Core.Path.{◌≡◌, refl, sym, ap, subst, ◌∙◌}
 use mathlib.Core.List.{List, [], ◌∷◌}
 use native.Mathlib.Omega.{arith}
@@ -13,9 +14,11 @@ use Rattle.rules.specs.Data.{the, power}
 use Rattle.rules.specs.Modes.{base}
 use Rattle.rules.specs.Elements.{is_blank, sign_of, Spells, sign, one_star, two_stars, one_slash, no_element}
 use Rattle.classes.specs.Places.{part, ByteAt, HasByte}
-use Rattle.elements.specs.Places.{Clear}
+use Rattle.elements.specs.Places.{Clear, MarkOf, m_sign, m_slash, m_nothing}
 use Rattle.words.specs.declared.Fixed.{Fixed}
 use Rattle.words.specs.declared.Fixed.TheVariants.{Star, Slash, Power}
+use Rattle.elements.specs.declared.marks.Mark.{Mark}
+use Rattle.elements.specs.declared.marks.Mark.TheVariants.{One, Stroke}
 use Rattle.elements.specs.declared.Element.TheVariants.{The}
 use Rattle.elements.specs.declared.Fault.TheVariants.{ForeignByte}
 use Rattle.elements.specs.Next.{ElementAt, FaultAt}
@@ -44,26 +47,47 @@ lone_star l at x b y n = single l at 42 Star b (one_star (front_byte l (at + 1) 
 
 -- ---- what a byte begins
 
+pub mark_is : (b k : ℕ) (s : Fixed) → b ≡ k → sign_of base k ≡ some (fixed_of s) → MarkOf b (Some (One s))
+mark_is b k s e h = m_sign (ap (sign_of base) e ∙ h)
+
+-- none of the signs; `;` is one of PVL alone
+pub no_mark : (b : ℕ) → (b ≡ 61 → ⊥) → (b ≡ 44 → ⊥) → (b ≡ 42 → ⊥) → (b ≡ 47 → ⊥) → (b ≡ 94 → ⊥) → (b ≡ 60 → ⊥) → (b ≡ 62 → ⊥) → (b ≡ 40 → ⊥) → (b ≡ 41 → ⊥) → (b ≡ 123 → ⊥) → (b ≡ 125 → ⊥) → (b ≡ 34 → ⊥) → (b ≡ 39 → ⊥) → MarkOf b None
+no_mark b n61 n44 n42 n47 n94 n60 n62 n40 n41 n123 n125 n34 n39 =
+    m_nothing (rw (and-false (eqb b 59), ne_eqb b 61 n61, ne_eqb b 44 n44, ne_eqb b 94 n94, ne_eqb b 60 n60, ne_eqb b 62 n62, ne_eqb b 40 n40, ne_eqb b 41 n41, ne_eqb b 123 n123, ne_eqb b 125 n125))
+    (rw (ne_eqb b 42 n42, ne_eqb b 47 n47, ne_eqb b 34 n34, ne_eqb b 39 n39))
+
+-- ---- what stands where the byte has a mark
+
 no_blank_at : (l : List ℕ) (at : ℕ) → Clear l at → at < length l → is_blank (get_or l at 0) ≡ false
 no_blank_at l at c h = sym (front_at is_blank l at h) ∙ c.no_blank
 
-pub has_byte : (l : List ℕ) (at k : ℕ) → at < length l → get_or l at 0 ≡ k → HasByte l at k
-has_byte l at k w h = record { within = w; is = h }
+begins_at : (l : List ℕ) (at k : ℕ) → Clear l at → (at ≡ length l → ⊥) → get_or l at 0 ≡ k → HasByte l at k
+begins_at l at k c n h = record { within = omega (arith, c.within); is = h }
 
-pub one_sign : (l : List ℕ) (at k : ℕ) (s : Fixed) → sign_of base k ≡ some (fixed_of s) → at < length l → get_or l at 0 ≡ k → ElementAt l at (The s at (at + 1), at + 1)
-one_sign l at k s h w q = single l at k s (has_byte l at k w q) (sign h)
+module _ (l : List ℕ) (at : ℕ) (c : Clear l at) (n : at ≡ length l → ⊥) (m : Option Mark) (k : MarkOf (get_or l at 0) m) where
+  module _ (x : Mark) (h : m ≡ Some x) where
+    -- the mark that was matched
+    told : (y : Mark) → x ≡ y → MarkOf (get_or l at 0) (Some y)
+    told y q = subst (MarkOf (get_or l at 0)) (h ∙ ap Some q) k
 
-pub lone_slash : (l : List ℕ) (at : ℕ) → Clear l at → at < length l → get_or l at 0 ≡ 47 → ElementAt l at (The Slash at (at + 1), at + 1)
-lone_slash l at c w q =
-    let b = has_byte l at 47 w q in
-    single l at 47 Slash b (one_slash (ap (pair 47 42) (sym (begins_with l at 47 b)) ∙ c.no_comment))
+    pub one_sign : (s : Fixed) → x ≡ One s → ElementAt l at (The s at (at + 1), at + 1)
+    one_sign s q = go (told (One s) q)
+      where
+        go : MarkOf (get_or l at 0) (Some (One s)) → ElementAt l at (The s at (at + 1), at + 1)
+        go (m_sign e) = single l at (get_or l at 0) s (begins_at l at (get_or l at 0) c n refl) (sign e)
 
--- none of the signs
-pub no_sign : (l : List ℕ) (at : ℕ) (t : Bool) → Clear l at → at < length l → t ≡ word_byte (get_or l at 0) → t ≡ false →
-    (get_or l at 0 ≡ 61 → ⊥) → (get_or l at 0 ≡ 44 → ⊥) → (get_or l at 0 ≡ 42 → ⊥) → (get_or l at 0 ≡ 47 → ⊥) → (get_or l at 0 ≡ 94 → ⊥) → (get_or l at 0 ≡ 60 → ⊥) → (get_or l at 0 ≡ 62 → ⊥) →
-    (get_or l at 0 ≡ 40 → ⊥) → (get_or l at 0 ≡ 41 → ⊥) → (get_or l at 0 ≡ 123 → ⊥) → (get_or l at 0 ≡ 125 → ⊥) → (get_or l at 0 ≡ 34 → ⊥) → (get_or l at 0 ≡ 39 → ⊥) → FaultAt l at (ForeignByte, at)
-no_sign l at t c w e f n61 n44 n42 n47 n94 n60 n62 n40 n41 n123 n125 n34 n39 =
-    let b = get_or l at 0 in
-    fails l at ForeignByte w (rw (unroll l at w) (no_element {b = b} (sym e ∙ f) (no_blank_at l at c w)
-    (rw (and-false (eqb b 59), ne_eqb b 61 n61, ne_eqb b 44 n44, ne_eqb b 94 n94, ne_eqb b 60 n60, ne_eqb b 62 n62, ne_eqb b 40 n40, ne_eqb b 41 n41, ne_eqb b 123 n123, ne_eqb b 125 n125))
-    (rw (ne_eqb b 42 n42, ne_eqb b 47 n47, ne_eqb b 34 n34, ne_eqb b 39 n39))))
+    pub lone_slash : x ≡ Stroke → ElementAt l at (The Slash at (at + 1), at + 1)
+    lone_slash q = go (told Stroke q)
+      where
+        go : MarkOf (get_or l at 0) (Some Stroke) → ElementAt l at (The Slash at (at + 1), at + 1)
+        go (m_slash e) =
+            let b = begins_at l at 47 c n e in
+            single l at 47 Slash b (one_slash (ap (pair 47 42) (sym (begins_with l at 47 b)) ∙ c.no_comment))
+
+  pub no_sign : (t : Bool) → t ≡ word_byte (get_or l at 0) → t ≡ false → m ≡ None → FaultAt l at (ForeignByte, at)
+  no_sign t e f q = go (subst (MarkOf (get_or l at 0)) q k)
+    where
+      go : MarkOf (get_or l at 0) None → FaultAt l at (ForeignByte, at)
+      go (m_nothing h o) =
+          let w : at < length l = (begins_at l at (get_or l at 0) c n refl).within in
+          fails l at ForeignByte w (rw (unroll l at w) (no_element (sym e ∙ f) (no_blank_at l at c w) h o))

@@ -6,10 +6,9 @@ use mathlib.Core.List.{List, [], ◌∷◌, ◌++◌, map}
 use native.Mathlib.Omega.{arith}
 use lib.Dec.{eqb}
 use lib.ListN.{length, get_or, drop, drop_of_length-le}
-use Rattle.rules.specs.Bytes.{fold, word_byte, Run, stops, goes_on}
+use Rattle.rules.specs.Bytes.{fold, Run, stops, goes_on}
 use Rattle.rules.specs.Data.{Elem, name, end, ◌on◌}
 use Rattle.rules.specs.Modes.{base}
-use Rattle.rules.specs.Reading.{longest}
 use Rattle.rules.specs.Words.{Form, Past, Formless}
 use Rattle.rules.proofs.Machine.Words.{Classified}
 use Rattle.rules.specs.Elements.{is_blank, in_word, sets_off, Spells, word, Fault, no_form, past_limit}
@@ -30,12 +29,9 @@ use Rattle.elements.specs.declared.Element.{Element}
 use Rattle.elements.specs.declared.Element.TheVariants.{Name, The, End, Integer, Based, Float, Time}
 use Rattle.elements.specs.declared.Fault as code
 use Rattle.elements.specs.declared.Fault.TheVariants.{NoForm, PastLimit}
-use Rattle.classes.proofs.Runs.{unroll, joined, front_at}
+use Rattle.classes.proofs.Runs.{unroll, joined}
 use Rattle.classes.proofs.Parts.{part_length}
 use Rattle.elements.proofs.Finding.{stand, fails}
-
-pub begins_word : (l : List ℕ) (at : ℕ) (t : Bool) → length l ≤ longest → at < length l → t ≡ word_byte (get_or l at 0) → t ≡ true → WordBegins l at
-begins_word l at t s w h k = record { within = w; is = front_at word_byte l at w ∙ sym h ∙ k; short = s }
 
 some_word : {l a r : List ℕ} → a ++ r ≡ l → Run in_word a r → in_word l ≡ true → 0 < length a
 some_word e (stops h) k = absurd (true≢false (sym k ∙ ap in_word (sym e) ∙ h))

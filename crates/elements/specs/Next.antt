@@ -52,10 +52,16 @@ pub record FaultAt (label : List ℕ) (at : ℕ) (b : Broken) : Type 0 where
   pub place : b.1 ≡ at
   pub is : Fault base (drop at label) (code_of b.0)
 
--- what stands at a place inside the label: an element or a fault
-abbrev pub Stands : List ℕ → ℕ → Result Found Broken → Type 0
-Stands label at (Ok f) = ElementAt label at f
+-- what stands at a place: an element; nothing at the label's end; or a fault
+abbrev pub Stands : List ℕ → ℕ → Result (Option Found) Broken → Type 0
+Stands label at (Ok (Some f)) = ElementAt label at f
+Stands label at (Ok None) = at ≡ length label
 Stands label at (Err b) = FaultAt label at b
+
+-- an answer of what is asked inside the label alone, as one of any place
+abbrev pub inside : Result Found Broken → Result (Option Found) Broken
+inside (Ok f) = Ok (Some f)
+inside (Err b) = Err b
 
 -- an element, its bytes from `at` on, behind a gap from `from`
 pub record ElementNext (label : List ℕ) (from : ℕ) (f : Found) : Type 0 where

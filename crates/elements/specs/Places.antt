@@ -1,11 +1,16 @@
 -- What the functions of the crate say of the places of a label.
-use Rattle.std.specs.Prelude.{ℕ, ◌+◌, ◌≤◌, ◌<◌, true, false, ◌≡◌, List, length, get_or, drop, Result, Ok, Err}
-use Rattle.rules.specs.Bytes.{front, pair}
+use Rattle.std.specs.Prelude.{ℕ, ◌+◌, ◌≤◌, ◌<◌, true, false, ◌≡◌, List, length, get_or, drop, Option, Some, None, Result, Ok, Err}
+use Rattle.std.proofs.Math.Option.{none, some}
+use Rattle.rules.specs.Bytes.{ascii, among, front, pair}
+use Rattle.words.specs.Says.{fixed_of}
+use Rattle.words.specs.declared.Fixed.{Fixed}
 use Rattle.rules.specs.Modes.{base}
 use Rattle.rules.specs.Reading.{longest}
-use Rattle.rules.specs.Elements.{is_blank, in_word, Comment, Gap, Fault}
+use Rattle.rules.specs.Elements.{is_blank, sign_of, in_word, Comment, Gap, Fault}
 use Rattle.elements.specs.Faults.{code_of}
 use Rattle.elements.specs.declared.Broken.{Broken}
+use Rattle.elements.specs.declared.marks.Mark.{Mark}
+use Rattle.elements.specs.declared.marks.Mark.TheVariants.{One, Asterisk, Stroke, Quote, Apostrophe}
 use Rattle.classes.specs.Places.{part}
 
 -- a comment opens at a place
@@ -58,3 +63,12 @@ pub record GapBroken (l : List ℕ) (from : ℕ) (b : Broken) : Type 0 where
 abbrev pub Skipped : List ℕ → ℕ → Result ℕ Broken → Type 0
 Skipped l from (Ok at) = GapEnds l from at
 Skipped l from (Err b) = GapBroken l from b
+
+-- what a byte begins
+pub data MarkOf (b : ℕ) : Option Mark → Type 0 where
+  m_sign : {s : Fixed} → sign_of base b ≡ some (fixed_of s) → MarkOf b (Some (One s))
+  m_star : b ≡ 42 → MarkOf b (Some Asterisk)
+  m_slash : b ≡ 47 → MarkOf b (Some Stroke)
+  m_quote : b ≡ 34 → MarkOf b (Some Quote)
+  m_apostrophe : b ≡ 39 → MarkOf b (Some Apostrophe)
+  m_nothing : sign_of base b ≡ none → among (ascii "*/\"'") b ≡ false → MarkOf b None

@@ -3,18 +3,18 @@
 
 mod ends; // ends.rt: where comments end, and what breaks off
 mod gaps; // gaps.rt: blanks and comments
-mod marks; // marks.rt: signs that a star begins
+mod marks; // marks.rt: signs, and what opens a text or a symbol
 mod quotes; // quotes.rt: texts and symbols
 mod word; // word.rt: words
 
-ghost use Rattle.std.specs.Prelude.{◌<◌, ◌≤◌, length};
+ghost use Rattle.std.specs.Prelude.{◌≤◌, length};
 ghost use Rattle.rules.specs.Reading.{longest};
 ghost use Rattle.elements.specs.Places.{Clear};
 ghost use Rattle.elements.specs.Next.{Stands, NextAt};
 
 use classes::is_word;
 use gaps::skip_gap;
-use marks::star_at;
+use marks::{Mark, mark_of, star_at};
 use quotes::{symbol_at, text_at};
 use word::word_at;
 use words::{Fixed, Moment, Real};
@@ -50,32 +50,27 @@ pub enum Fault {
 #[derive(Clone, Copy)]
 pub struct Broken(pub Fault, pub usize);
 
-// What stands at a place where no blank and no comment does.
-fn element_at(label: &[u8], at: usize) -> Result<Found, Broken>
-    requires { Clear label.now at × (at < length label.now) × (length label.now ≤ longest) }
+// What stands at a place where no blank and no comment does; nothing at the label's end.
+fn element_at(label: &[u8], at: usize) -> Result<Option<Found>, Broken>
+    requires { Clear label.now at × (length label.now ≤ longest) }
     ensures { Stands label.now at result }
 {
+    if at == label.len() {
+        return Ok(None);
+    }
     let b = label[at];
     if is_word(b) {
-        return word_at(label, at);
+        return Ok(Some(word_at(label, at)?));
     }
-    let sign = match b {
-        b'=' => Fixed::Equals,
-        b',' => Fixed::Comma,
-        b'*' => return Ok(star_at(label, at)),
-        b'/' => Fixed::Slash,
-        b'^' => Fixed::Caret,
-        b'<' => Fixed::Less,
-        b'>' => Fixed::Greater,
-        b'(' => Fixed::OpenParen,
-        b')' => Fixed::CloseParen,
-        b'{' => Fixed::OpenBrace,
-        b'}' => Fixed::CloseBrace,
-        b'"' => return text_at(label, at),
-        b'\'' => return symbol_at(label, at),
-        _ => return Err(Broken(Fault::ForeignByte, at)),
+    let found = match mark_of(b) {
+        Some(Mark::One(s)) => Found(Element::The(s, at, at + 1), at + 1),
+        Some(Mark::Asterisk) => star_at(label, at),
+        Some(Mark::Stroke) => Found(Element::The(Fixed::Slash, at, at + 1), at + 1),
+        Some(Mark::Quote) => text_at(label, at)?,
+        Some(Mark::Apostrophe) => symbol_at(label, at)?,
+        None => return Err(Broken(Fault::ForeignByte, at)),
     };
-    Ok(Found(Element::The(sign, at, at + 1), at + 1))
+    Ok(Some(found))
 }
 
 // The next element from a place on, behind blanks and comments; none at the input's end.
@@ -84,9 +79,5 @@ pub fn next(label: &[u8], from: usize) -> Result<Option<Found>, Broken>
     ensures { NextAt label.now from result }
 {
     let at = skip_gap(label, from)?;
-    if at == label.len() {
-        return Ok(None);
-    }
-    let found = element_at(label, at)?;
-    Ok(Some(found))
+    element_at(label, at)
 }

@@ -1,6 +1,6 @@
 // Texts and symbols, from their opening quote or apostrophe.
 ghost use Rattle.classes.specs.Places.{HasByte};
-ghost use Rattle.elements.specs.Next.{Stands};
+ghost use Rattle.elements.specs.Next.{Stands, inside};
 
 use crate::ends::break_code;
 use crate::{Broken, Element, Fault, Found};
@@ -11,7 +11,7 @@ const LONGEST_OPENED: usize = 256;
 
 pub fn text_at(label: &[u8], at: usize) -> Result<Found, Broken>
     requires { HasByte label.now at 34 }
-    ensures { Stands label.now at result }
+    ensures { Stands label.now at (inside result) }
 {
     let e = run_end::<InText>(label, at + 1);
     if e == label.len() {
@@ -25,7 +25,7 @@ pub fn text_at(label: &[u8], at: usize) -> Result<Found, Broken>
 
 pub fn symbol_at(label: &[u8], at: usize) -> Result<Found, Broken>
     requires { HasByte label.now at 39 }
-    ensures { Stands label.now at result }
+    ensures { Stands label.now at (inside result) }
 {
     let e = run_end::<InSymbol>(label, at + 1);
     if byte_at(label, e) != b'\'' {

@@ -3,7 +3,7 @@ ghost use Rattle.std.specs.Prelude.{◌≡◌, ◌≤◌, length, drop};
 ghost use Rattle.rules.specs.Modes.{base};
 ghost use Rattle.rules.specs.Elements.{sets_off};
 ghost use Rattle.elements.specs.Places.{WordBegins};
-ghost use Rattle.elements.specs.Next.{Stands};
+ghost use Rattle.elements.specs.Next.{Stands, inside};
 
 use crate::{Broken, Element, Fault, Found};
 use classes::{Word, is_blank, run_end};
@@ -20,7 +20,7 @@ fn sets_off(label: &[u8], at: usize) -> bool
 // The element that a word is.
 pub fn word_at(label: &[u8], at: usize) -> Result<Found, Broken>
     requires { WordBegins label.now at }
-    ensures { Stands label.now at result }
+    ensures { Stands label.now at (inside result) }
 {
     let e = run_end::<Word>(label, at);
     let element = match word(&label[at..e]) {

@@ -5,7 +5,7 @@ use Rattle.std.specs.Prelude.{Option, Some, None}
 use mathlib.Core.Path.{◌≡◌, refl, ap, sym, ◌∙◌}
 use mathlib.Core.List.{List, [], ◌∷◌, ◌++◌, append_assoc, append-nil}
 use native.Mathlib.Omega.{arith}
-use borrow.Author.Tests.{not-true, not-false, eq-eqb, ne_eqb}
+use borrow.Author.Tests.{eq-eqb, ne_eqb}
 use lib.Dec.{leb, eqb}
 use lib.ListN.{length, get_or, take, drop, length-drop, drop_of_length-le}
 use lib.Seq.{take_all}
@@ -131,54 +131,69 @@ known_not w i h = record { unbroken = λ e. absurd (h e) }
 onwards : (w : List ℕ) (i : ℕ) → take (length w - i) (drop i w) ≡ drop i w
 onwards w i = take_all (length w - i) (drop i w) (rw (length-drop i w) (le_refl _))
 
-module _ (w : List ℕ) (i : ℕ) (t : Bool) where
-  pub turn_passed : {run : Run} → Known w i run → i < length w → t ≡ kept (get_or w i 0) → not t ≡ true → Turned w i run None run
-  turn_passed {run} v h e f =
-      let k : keep (drop i w) ≡ keep (drop (i + 1) w) = keep_not w i h (sym e ∙ not-true t f) in
+dropped : (k y : Bool) → (k && not y) ≡ false → y ≡ false → k ≡ false
+dropped true y e f = absurd (true≢false (sym (ap not f) ∙ e))
+dropped false y e f = refl
+
+blank_kept : (b : ℕ) → is_blank b ≡ true → kept b ≡ true
+blank_kept b y = rw y
+
+module _ (w : List ℕ) (i : ℕ) where
+  pub turn_passed : {run : Run} (s u : Bool) → Known w i run → i < length w → s ≡ (kept (get_or w i 0) && not (is_blank (get_or w i 0))) → s ≡ false → u ≡ is_blank (get_or w i 0) → u ≡ false → Turned w i run None run
+  turn_passed {run} s u v h e f g j =
+      let k : keep (drop i w) ≡ keep (drop (i + 1) w) = keep_not w i h (dropped (kept (get_or w i 0)) (is_blank (get_or w i 0)) (sym e ∙ f) (sym g ∙ j)) in
       record { joins = ap (join (dealt run)) k; knows = record { unbroken = λ y. ap breaks (sym k) ∙ v.unbroken y } }
 
-  module _ (u : Bool) (h : i < length w) (e : t ≡ kept (get_or w i 0)) (f : not t ≡ false) (g : u ≡ is_blank (get_or w i 0)) where
-    keeps : keep (drop i w) ≡ get_or w i 0 ∷ keep (drop (i + 1) w)
-    keeps = keep_yes w i h (sym e ∙ not-false t f)
+  -- a blank
+  module _ (u : Bool) (h : i < length w) (g : u ≡ is_blank (get_or w i 0)) (j : u ≡ true) where
+    blank_next : keep (drop i w) ≡ get_or w i 0 ∷ keep (drop (i + 1) w)
+    blank_next = keep_yes w i h (blank_kept (get_or w i 0) (sym g ∙ j))
 
-    pub turn_dealt : {run : Run} → u ≡ true → run ≡ runs.Dealt → Turned w i run None runs.Dealt
+    pub turn_dealt : {run : Run} → run ≡ runs.Dealt → Turned w i run None runs.Dealt
     unfolding join
-    turn_dealt j d = record { joins = rw (d, keeps, ← g, j); knows = known_not w (i + 1) (λ z. cc) }
+    turn_dealt d = record { joins = rw (d, blank_next, ← g, j); knows = known_not w (i + 1) (λ z. cc) }
 
-    pub turn_breaks : {run : Run} {r : Bool} → u ≡ true → run ≡ runs.Fresh → r ≡ breaks (keep (take (length w - i) (drop i w))) → r ≡ true → Turned w i run (Some 32) runs.Dealt
+    pub turn_breaks : {run : Run} {r : Bool} → run ≡ runs.Fresh → r ≡ breaks (keep (take (length w - i) (drop i w))) → r ≡ true → Turned w i run (Some 32) runs.Dealt
     unfolding join
-    turn_breaks j d b c =
-        let k : breaks (get_or w i 0 ∷ keep (drop (i + 1) w)) ≡ true = ap breaks (sym keeps) ∙ sym (b ∙ ap (λ l. breaks (keep l)) (onwards w i)) ∙ c in
-        record { joins = rw (d, keeps, ← g, j, k); knows = known_not w (i + 1) (λ z. cc) }
+    turn_breaks d b c =
+        let k : breaks (get_or w i 0 ∷ keep (drop (i + 1) w)) ≡ true = ap breaks (sym blank_next) ∙ sym (b ∙ ap (λ l. breaks (keep l)) (onwards w i)) ∙ c in
+        record { joins = rw (d, blank_next, ← g, j, k); knows = known_not w (i + 1) (λ z. cc) }
 
-    stays : {run : Run} → u ≡ true → dealt run ≡ false → breaks (keep (drop i w)) ≡ false → Turned w i run (Some (get_or w i 0)) runs.Unbroken
+    stays : {run : Run} → dealt run ≡ false → breaks (keep (drop i w)) ≡ false → Turned w i run (Some (get_or w i 0)) runs.Unbroken
     unfolding join
-    stays j d b =
-        let k : breaks (get_or w i 0 ∷ keep (drop (i + 1) w)) ≡ false = ap breaks (sym keeps) ∙ b in
-        record { joins = rw (d, keeps, ← g, j, k); knows = record { unbroken = λ y. run_rest (get_or w i 0) (keep (drop (i + 1) w)) (sym g ∙ j) k } }
+    stays d b =
+        let k : breaks (get_or w i 0 ∷ keep (drop (i + 1) w)) ≡ false = ap breaks (sym blank_next) ∙ b in
+        record { joins = rw (d, blank_next, ← g, j, k); knows = record { unbroken = λ y. run_rest (get_or w i 0) (keep (drop (i + 1) w)) (sym g ∙ j) k } }
 
-    pub turn_unbroken : {run : Run} {r : Bool} → u ≡ true → run ≡ runs.Fresh → r ≡ breaks (keep (take (length w - i) (drop i w))) → r ≡ false → Turned w i run (Some (get_or w i 0)) runs.Unbroken
-    turn_unbroken j d b c = stays j (ap dealt d) (sym (b ∙ ap (λ l. breaks (keep l)) (onwards w i)) ∙ c)
+    pub turn_unbroken : {run : Run} {r : Bool} → run ≡ runs.Fresh → r ≡ breaks (keep (take (length w - i) (drop i w))) → r ≡ false → Turned w i run (Some (get_or w i 0)) runs.Unbroken
+    turn_unbroken d b c = stays (ap dealt d) (sym (b ∙ ap (λ l. breaks (keep l)) (onwards w i)) ∙ c)
 
-    pub turn_known : {run : Run} → u ≡ true → Known w i run → run ≡ runs.Unbroken → Turned w i run (Some (get_or w i 0)) runs.Unbroken
-    turn_known j v d = stays j (ap dealt d) (v.unbroken d)
+    pub turn_known : {run : Run} → Known w i run → run ≡ runs.Unbroken → Turned w i run (Some (get_or w i 0)) runs.Unbroken
+    turn_known v d = stays (ap dealt d) (v.unbroken d)
 
-    -- a byte that is no blank
-    pub turn_vanish : {run : Run} {r : Bool} → u ≡ false → get_or w i 0 ≡ 45 → r ≡ front line_end (keep (take (length w - (i + 1)) (drop (i + 1) w))) → r ≡ true → Turned w i run None runs.Dealt
+  -- a byte that is shown
+  module _ (s : Bool) (h : i < length w) (e : s ≡ (kept (get_or w i 0) && not (is_blank (get_or w i 0)))) (f : s ≡ true) where
+    tests : (kept (get_or w i 0) ≡ true) × ((spacing (get_or w i 0) ≡ false) × (line_end (get_or w i 0) ≡ false))
+    tests = no_blank (spacing (get_or w i 0)) (line_end (get_or w i 0)) _ (sym e ∙ f)
+
+    shown_next : keep (drop i w) ≡ get_or w i 0 ∷ keep (drop (i + 1) w)
+    shown_next = keep_yes w i h tests.0
+
+    pub turn_vanish : {run : Run} {r : Bool} → get_or w i 0 ≡ 45 → r ≡ front line_end (keep (take (length w - (i + 1)) (drop (i + 1) w))) → r ≡ true → Turned w i run None runs.Dealt
     unfolding join
-    turn_vanish j m b c =
+    turn_vanish m b c =
         let q : (eqb (get_or w i 0) 45 && front line_end (keep (drop (i + 1) w))) ≡ true = rw (eq-eqb (get_or w i 0) 45 m, ← onwards w (i + 1), ← b, c) in
-        record { joins = rw (keeps, ← g, j, q); knows = known_not w (i + 1) (λ z. cc) }
+        record { joins = rw (shown_next, tests.1.0, tests.1.1, q); knows = known_not w (i + 1) (λ z. cc) }
 
-    byte_stays : {run : Run} → u ≡ false → (eqb (get_or w i 0) 45 && front line_end (keep (drop (i + 1) w))) ≡ false → Turned w i run (Some (get_or w i 0)) runs.Fresh
+    byte_stays : {run : Run} → (eqb (get_or w i 0) 45 && front line_end (keep (drop (i + 1) w))) ≡ false → Turned w i run (Some (get_or w i 0)) runs.Fresh
     unfolding join
-    byte_stays j q = record { joins = rw (keeps, ← g, j, q); knows = known_not w (i + 1) (λ z. cc) }
+    byte_stays q = record { joins = rw (shown_next, tests.1.0, tests.1.1, q); knows = known_not w (i + 1) (λ z. cc) }
 
-    pub turn_hyphen : {run : Run} {r : Bool} → u ≡ false → r ≡ front line_end (keep (take (length w - (i + 1)) (drop (i + 1) w))) → r ≡ false → Turned w i run (Some (get_or w i 0)) runs.Fresh
-    turn_hyphen j b c = byte_stays j (rw (← onwards w (i + 1), ← b, c) (and-false (eqb (get_or w i 0) 45)))
+    pub turn_hyphen : {run : Run} {r : Bool} → r ≡ front line_end (keep (take (length w - (i + 1)) (drop (i + 1) w))) → r ≡ false → Turned w i run (Some (get_or w i 0)) runs.Fresh
+    turn_hyphen b c = byte_stays (rw (← onwards w (i + 1), ← b, c) (and-false (eqb (get_or w i 0) 45)))
 
-    pub turn_other : {run : Run} → u ≡ false → (get_or w i 0 ≡ 45 → ⊥) → Turned w i run (Some (get_or w i 0)) runs.Fresh
-    turn_other j m = byte_stays j (rw (ne_eqb (get_or w i 0) 45 m))
+    pub turn_other : {run : Run} → (get_or w i 0 ≡ 45 → ⊥) → Turned w i run (Some (get_or w i 0)) runs.Fresh
+    turn_other m = byte_stays (rw (ne_eqb (get_or w i 0) 45 m))
 
 -- ---- all turns
 

@@ -18,17 +18,17 @@ pub enum Run {
     Unbroken,
 }
 
-fn is_kept(b: u8) -> bool
-    ensures { result ≡ kept b }
-{
-    is_blank(b) | ((b >= b' ') & (b != 127))
-}
-
 // A byte that is kept and is no blank.
 fn is_shown(b: u8) -> bool
     ensures { result ≡ (kept b && not (is_blank b)) }
 {
-    is_kept(b) & !is_blank(b)
+    (b > b' ') & (b != 127)
+}
+
+fn is_kept(b: u8) -> bool
+    ensures { result ≡ kept b }
+{
+    is_shown(b) | is_blank(b)
 }
 
 // Whether the run of blanks at the front holds a line end.
@@ -59,14 +59,17 @@ fn line_ends(w: &[u8]) -> bool
 }
 
 // A byte's turn: what it leaves of the text, and what is known of a run behind it. The end of a run is looked for at the run's first byte, and what was found holds
-// for the rest of it.
+// for the rest of it. Bytes that are shown come first: most bytes of texts are.
 fn turn_of(w: &[u8], i: usize, run: Run) -> (Option<u8>, Run)
     requires { (i < length w.now) × Known w.now i run }
     ensures { Turned w.now i run result.0 result.1 }
 {
     let b = w[i];
-    if !is_kept(b) {
-        return (None, run);
+    if is_shown(b) {
+        if b == b'-' && line_ends(&w[i + 1..]) {
+            return (None, Run::Dealt);
+        }
+        return (Some(b), Run::Fresh);
     }
     if is_blank(b) {
         return match run {
@@ -76,10 +79,7 @@ fn turn_of(w: &[u8], i: usize, run: Run) -> (Option<u8>, Run)
             Run::Fresh => (Some(b), Run::Unbroken),
         };
     }
-    if b == b'-' && line_ends(&w[i + 1..]) {
-        return (None, Run::Dealt);
-    }
-    (Some(b), Run::Fresh)
+    (None, run)
 }
 
 fn put_if(out: &mut [u8], b: Option<u8>) -> usize

@@ -7,8 +7,9 @@ use Rattle.rules.specs.Data.{Kind, object, Opens, outside, inside, depth}
 use Rattle.rules.specs.Meaning.{Sense}
 use Rattle.rules.specs.Written as rule
 use Rattle.rows.specs.declared.Row.{Row}
+use Rattle.rows.specs.declared.Row.TheVariants as rows
 use Rattle.output.proofs.Once.{puts_once}
-use Rattle.printing.specs.Lines.{prior_of, Enclosed, HeadingPut, ClosePut, RowPut, PriorAfter}
+use Rattle.printing.specs.Lines.{prior_of, Enclosed, HeadingPut, ClosePut, RowPut, LinePut, PriorAfter}
 use Rattle.printing.specs.declared.Prior.{Prior}
 use Rattle.printing.specs.declared.Prior.TheVariants as priors
 
@@ -35,6 +36,25 @@ module _ {q : rule.Prior} {d : ℕ} {room a b : List ℕ} {n m : ℕ} where
 
   pub row_once : {given top : List ℕ} {row : Row} → RowPut given q d top row room a n → RowPut given q d top row room b m → (n ≡ m) × (a ≡ b)
   row_once {top = top} u v = let o = enclosing d top in puts_once (u.puts o.0 o.1) (v.puts o.0 o.1)
+
+  -- both clauses of a row: a row that begins a line is decided by its line alone
+  pub put_once : {given top : List ℕ} (row : Row) → RowPut given q d top row room a n × LinePut given q d top row room a n → RowPut given q d top row room b m × LinePut given q d top row room b m →
+      (n ≡ m) × (a ≡ b)
+  put_once (rows.Attribute i j) u v = heading_once u.1 v.1
+  put_once (rows.Pointer i j) u v = heading_once u.1 v.1
+  put_once (rows.Open k i j) u v = heading_once u.1 v.1
+  put_once (rows.Close k) u v = close_once u.1 v.1
+  put_once (rows.Integer p w) u v = row_once u.0 v.0
+  put_once (rows.Float x) u v = row_once u.0 v.0
+  put_once (rows.Time x) u v = row_once u.0 v.0
+  put_once (rows.Text i j) u v = row_once u.0 v.0
+  put_once (rows.Symbol i j) u v = row_once u.0 v.0
+  put_once (rows.Unit o i j p w) u v = row_once u.0 v.0
+  put_once rows.Sequence u v = row_once u.0 v.0
+  put_once rows.SequenceEnd u v = row_once u.0 v.0
+  put_once rows.Set u v = row_once u.0 v.0
+  put_once rows.SetEnd u v = row_once u.0 v.0
+  put_once (rows.Last i) u v = heading_once u.1 v.1
 
 -- the code's own name of what a row leaves
 abbrev of_rule : rule.Prior → Prior

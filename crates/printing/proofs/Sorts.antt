@@ -1,5 +1,5 @@
 -- What each sort of row writes: what stands before it, and its own bytes; and what it is to the row after it.
-use Prim.Native.Nat.{ℕ, ◌-◌}
+use Prim.Native.Nat.{ℕ, ◌-◌, ◌≤◌}
 use mathlib.Core.Bool.{false, cond}
 use mathlib.Core.Path.{◌≡◌, refl, sym, ◌∙◌}
 use mathlib.Core.List.{List, [], ◌++◌, append_assoc}
@@ -15,7 +15,9 @@ use Rattle.rows.specs.Rows.{kind_of, row_of}
 use Rattle.rows.specs.declared.Kind.{Kind}
 use Rattle.rows.specs.declared.Row.{Row}
 use Rattle.rows.specs.declared.Row.TheVariants as rows
-use Rattle.printing.specs.Lines.{before, own, Innermost, Enclosed, PriorAfter}
+use Rattle.output.specs.Puts.{Puts}
+use Rattle.output.proofs.Laws.{same_part}
+use Rattle.printing.specs.Lines.{before, own, row_bound, Innermost, Enclosed, LinePut, PriorAfter}
 
 -- ---- what a row is to the row after it
 
@@ -42,6 +44,10 @@ left_as {w = w} h e = record { is = λ given. rw h (e ∙ same_prior given (row_
 
 -- ---- what a row writes
 
+-- a row that begins a line, within so many blocks
+opening : (q : Prior) (d : ℕ) (w : List ℕ) (o : Opens) → depth o ≡ d → (units_end q ++ new_line q d) ++ w ≡ units_end q ++ (new_line q (depth o) ++ w)
+opening q d w o e = rw e (append_assoc (units_end q) (new_line q d) w)
+
 -- a closing row, within so many blocks
 closing : (q : Prior) (d : ℕ) (top : List ℕ) (k : Kind) (o : Opens) → depth o ≡ d → Innermost top o →
     (units_end q ++ new_line q (d - 1)) ++ (close_word (kind_of k) ++ cond (eqb d 0) [] (ascii " = " ++ top)) ≡ writes q o (closed (kind_of k))
@@ -54,9 +60,9 @@ closing q d top k (inside l t o) a b =
     rw (z, f, b) (append_assoc (units_end q) (new_line q (depth o)) _)
 
 pub row_bytes : (given : List ℕ) (q : Prior) (d : ℕ) (top : List ℕ) (row : Row) (o : Opens) → Enclosed o d top → before q d row ++ own given d top row ≡ writes q o (sense given (row_of row))
-row_bytes given q d top (rows.Attribute a b) o e = rw e.deep (append_assoc (units_end q) (new_line q d) _)
-row_bytes given q d top (rows.Pointer a b) o e = rw e.deep (append_assoc (units_end q) (new_line q d) _)
-row_bytes given q d top (rows.Open k a b) o e = rw e.deep (append_assoc (units_end q) (new_line q d) _)
+row_bytes given q d top (rows.Attribute a b) o e = opening q d _ o e.deep
+row_bytes given q d top (rows.Pointer a b) o e = opening q d _ o e.deep
+row_bytes given q d top (rows.Open k a b) o e = opening q d _ o e.deep
 row_bytes given q d top (rows.Close k) o e = closing q d top k o e.deep e.named
 row_bytes given q d top (rows.Integer m n) o e = append_assoc (units_end q) (lead q) _
 row_bytes given q d top (rows.Float x) o e = append_assoc (units_end q) (lead q) _
@@ -68,4 +74,22 @@ row_bytes given q d top rows.Sequence o e = append_assoc (units_end q) (lead q) 
 row_bytes given q d top rows.SequenceEnd o e = refl
 row_bytes given q d top rows.Set o e = append_assoc (units_end q) (lead q) _
 row_bytes given q d top rows.SetEnd o e = refl
-row_bytes given q d top (rows.Last a) o e = rw e.deep (append_assoc (units_end q) (new_line q d) _)
+row_bytes given q d top (rows.Last a) o e = opening q d _ o e.deep
+
+-- of a row that begins a line, whatever the blocks are
+pub line_put : (given : List ℕ) (q : Prior) (d : ℕ) (top : List ℕ) (row : Row) {x y : List ℕ} {n : ℕ} → Puts (before q d row ++ own given d top row) x y n → n ≤ row_bound → LinePut given q d top row x y n
+line_put given q d top (rows.Attribute a b) p m = record { puts = λ o e. same_part (opening q d _ o e) p; most = m }
+line_put given q d top (rows.Pointer a b) p m = record { puts = λ o e. same_part (opening q d _ o e) p; most = m }
+line_put given q d top (rows.Open k a b) p m = record { puts = λ o e. same_part (opening q d _ o e) p; most = m }
+line_put given q d top (rows.Close k) p m = record { puts = λ o e. same_part (closing q d top k o e.deep e.named) p; most = m }
+line_put given q d top (rows.Integer v w) p m = tt
+line_put given q d top (rows.Float v) p m = tt
+line_put given q d top (rows.Time v) p m = tt
+line_put given q d top (rows.Text a b) p m = tt
+line_put given q d top (rows.Symbol a b) p m = tt
+line_put given q d top (rows.Unit op a b v w) p m = tt
+line_put given q d top rows.Sequence p m = tt
+line_put given q d top rows.SequenceEnd p m = tt
+line_put given q d top rows.Set p m = tt
+line_put given q d top rows.SetEnd p m = tt
+line_put given q d top (rows.Last a) p m = record { puts = λ o e. same_part (opening q d _ o e) p; most = m }

@@ -1,7 +1,7 @@
 -- What a row of the code writes, in the rules' own terms.
 use Rattle.std.specs.Prelude.{ℕ, ◌-◌, ◌≤◌, ◌≡◌, cond, eqb, List, [], ◌++◌, map}
 use Rattle.rules.specs.Bytes.{ascii, fold}
-use Rattle.rules.specs.Data.{Kind, Opens, outside, inside, depth, closed}
+use Rattle.rules.specs.Data.{Kind, Opens, outside, inside, depth, attribute, pointer, opened, closed, last}
 use Rattle.rules.specs.Meaning.{Sense, sense, reassemble}
 use Rattle.rules.specs.Written as rule
 use Rattle.classes.specs.Places.{part}
@@ -78,6 +78,24 @@ pub record HeadingPut (q : rule.Prior) (d : ℕ) (s : Sense) (before after : Lis
 pub record ClosePut (q : rule.Prior) (d : ℕ) (top : List ℕ) (k : Kind) (before after : List ℕ) (n : ℕ) : Type 0 where
   pub puts : (o : Opens) → Enclosed o d top → Puts (rule.writes q o (closed k)) before after n
   pub most : n ≤ row_bound
+
+-- what a row that begins a line writes, whatever the blocks around it are: their number decides, and for a closing line the innermost one's name
+abbrev pub LinePut : List ℕ → rule.Prior → ℕ → List ℕ → Row → List ℕ → List ℕ → ℕ → Type 0
+LinePut given q d top (rows.Attribute a b) room left n = HeadingPut q d (attribute (map fold (part given a b))) room left n
+LinePut given q d top (rows.Pointer a b) room left n = HeadingPut q d (pointer (map fold (part given a b))) room left n
+LinePut given q d top (rows.Open k a b) room left n = HeadingPut q d (opened (kind_of k) (map fold (part given a b))) room left n
+LinePut given q d top (rows.Close k) room left n = ClosePut q d top (kind_of k) room left n
+LinePut given q d top (rows.Integer m v) room left n = Unit {0}
+LinePut given q d top (rows.Float x) room left n = Unit {0}
+LinePut given q d top (rows.Time x) room left n = Unit {0}
+LinePut given q d top (rows.Text a b) room left n = Unit {0}
+LinePut given q d top (rows.Symbol a b) room left n = Unit {0}
+LinePut given q d top (rows.Unit p a b m v) room left n = Unit {0}
+LinePut given q d top rows.Sequence room left n = Unit {0}
+LinePut given q d top rows.SequenceEnd room left n = Unit {0}
+LinePut given q d top rows.Set room left n = Unit {0}
+LinePut given q d top rows.SetEnd room left n = Unit {0}
+LinePut given q d top (rows.Last a) room left n = HeadingPut q d (last tt) room left n
 
 -- what a row writes within so many blocks, the innermost of this name
 pub record RowPut (given : List ℕ) (q : rule.Prior) (d : ℕ) (top : List ℕ) (row : Row) (before after : List ℕ) (n : ℕ) : Type 0 where

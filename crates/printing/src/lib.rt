@@ -11,7 +11,7 @@ ghost use Rattle.rules.specs.Reading.{longest};
 ghost use Rattle.classes.specs.Places.{part};
 ghost use Rattle.rows.specs.Rows.{deepest};
 ghost use Rattle.output.specs.Puts.{Puts};
-ghost use Rattle.printing.specs.Lines.{prior_of, before, own, RowPut, PriorAfter};
+ghost use Rattle.printing.specs.Lines.{prior_of, before, own, RowPut, LinePut, PriorAfter};
 
 use classes::part;
 use headings::{put_closing, put_named, put_opening, put_pointed};
@@ -99,7 +99,8 @@ fn put_own(out: &mut [u8], label: &[u8], at: Around, row: Row) -> usize
 // A row where it stands.
 pub fn put_row(out: &mut [u8], label: &[u8], at: Around, row: Row) -> usize
     requires { (at.depth ≤ deepest) × (length label.now ≤ longest) }
-    ensures { RowPut label.now (prior_of at.prior) at.depth (map fold (part label.now at.from at.upto)) row out.old out.new result }
+    ensures row { RowPut label.now (prior_of at.prior) at.depth (map fold (part label.now at.from at.upto)) row out.old out.new result }
+    ensures line { LinePut label.now (prior_of at.prior) at.depth (map fold (part label.now at.from at.upto)) row out.old out.new result }
 {
     let a = put_before(out, at.prior, at.depth, row);
     let k = a.min(out.len());

@@ -15,7 +15,7 @@ use Rattle.rules.specs.Reading.{longest, Said, says, read, Answered}
 use Rattle.rules.proofs.Reading.Outcomes.{accepted_refused}
 use Rattle.rules.proofs.Reading.Reader.{reading_unique, answered_unique}
 use Rattle.statements.specs.Answer.{said}
-use Rattle.statements.specs.Passes.{AtStart, OnePass}
+use Rattle.statements.specs.Passes.{AtStart, Concluded, OnePass}
 use Rattle.statements.specs.declared.cursor.Cursor.{Cursor}
 use Rattle.statements.specs.declared.passes.Run.{Run}
 use Rattle.statements.specs.declared.outcome.Accepted.{Accepted}
@@ -55,11 +55,6 @@ read_once {label} {room} a b = let u = answered_unique base label room a b in (s
 
 -- ---- one pass
 
--- what a pass answers of the label
-abbrev answered : Result Run Refusal → Result Accepted Refusal
-answered (Ok r) = Ok r.accepted
-answered (Err e) = Err e
-
 same_accepted : {a b : Accepted} → ◌≡◌ {A = Result Accepted Refusal} (Ok a) (Ok b) → a ≡ b
 same_accepted e = cc
 
@@ -67,14 +62,13 @@ no_refusal : {a : Accepted} {r : Refusal} → ◌≡◌ {A = Result Accepted Ref
 no_refusal e = let z : ◌≡◌ {A = ℕ} 0 1 = cc in omega arith
 
 -- where the table fits the room, the room after is decided
-record Same (before after after' : List ℕ) (r r' : Result Run Refusal) : Type 0 where
-  pub answer : answered r ≡ answered r'
-  pub room : (a : Accepted) → answered r ≡ Ok a → a.length ≤ length before → after ≡ after'
+record Same (before after after' : List ℕ) (r r' : Result Accepted Refusal) : Type 0 where
+  pub answer : r ≡ r'
+  pub room : (a : Accepted) → r ≡ Ok a → a.length ≤ length before → after ≡ after'
 
-passed_once : (label before : List ℕ) {after after' : List ℕ} → length label ≤ longest → (r r' : Result Run Refusal) → OnePass label before after r → OnePass label before after' r' → Same before after after' r r'
-passed_once label before s (Ok r) (Ok r') x y =
-    let a = r.accepted in
-    let a' = r'.accepted in
+concluded_once : (label before : List ℕ) {after after' : List ℕ} → length label ≤ longest → (r r' : Result Accepted Refusal) → Concluded label before after r → Concluded label before after' r' →
+    Same before after after' r r'
+concluded_once label before s (Ok a) (Ok a') x y =
     let u = reading_unique base (read s x.judged) (read s y.judged) in
     let q : x.rows ≡ y.rows = cc in
     let p : a.place ≡ a'.place = cc in
@@ -85,17 +79,17 @@ passed_once label before s (Ok r) (Ok r') x y =
           let g : a.length ≤ length before = omega (arith, ap (λ (z : Accepted). z.length) (same_accepted e)) in
           x.bytes g ∙ ap₂ (λ (l : List Row) (k : ℕ). table l ++ drop k before) q n ∙ sym (y.bytes (omega arith));
     }
-passed_once label before s (Ok r) (Err e) x y = absurd (accepted_refused (reading_unique base (read s x.judged) (read s y.judged)))
-passed_once label before s (Err e) (Ok r) x y = absurd (accepted_refused (reading_unique base (read s y.judged) (read s x.judged)))
-passed_once label before s (Err e) (Err e') x y =
+concluded_once label before s (Ok a) (Err e) x y = absurd (accepted_refused (reading_unique base (read s x.judged) (read s y.judged)))
+concluded_once label before s (Err e) (Ok a) x y = absurd (accepted_refused (reading_unique base (read s y.judged) (read s x.judged)))
+concluded_once label before s (Err e) (Err e') x y =
     let u = reading_unique base (read s x.judged) (read s y.judged) in
     let a : x.code ≡ y.code = cc in
     let b : x.place ≡ y.place = cc in
     record { answer = said_once (x.is ∙ ap₂ (λ (i j : ℕ). says i j 0) a b ∙ sym y.is); room = λ p q f. absurd (no_refusal q) }
 
-pub pass_once : (label before : List ℕ) {after after' : List ℕ} → length label ≤ longest → (r r' : Result Run Refusal) → OnePass label before after r → OnePass label before after' r' →
-    (answered r ≡ answered r') × ((a : Accepted) → answered r ≡ Ok a → a.length ≤ length before → after ≡ after')
-pass_once label before s r r' a b = let u = passed_once label before s r r' a b in (u.answer, u.room)
+pub pass_once : {label before after after' : List ℕ} {r r' : Run} → length label ≤ longest → OnePass label before after r → OnePass label before after' r' →
+    (r.answer ≡ r'.answer) × ((a : Accepted) → r.answer ≡ Ok a → a.length ≤ length before → after ≡ after')
+pass_once {label} {before} {r = r} {r'} s a b = let u = concluded_once label before s r.answer r'.answer a.concluded b.concluded in (u.answer, u.room)
 
 pub start_once : {c c' : Cursor} → AtStart c → AtStart c' → c ≡ c'
 start_once {c} {c'} a b =

@@ -31,12 +31,13 @@ use Rattle.elements.specs.declared.Broken.{Broken}
 use Rattle.elements.specs.declared.Found.{Found}
 use Rattle.rows.specs.declared.Row.{Row}
 use Rattle.rows.specs.declared.Row.TheVariants as rows
-use Rattle.statements.specs.Passes.{Refuses, Added, Sofar, AtStart, Reached, Passed, Refused}
+use Rattle.statements.specs.Passes.{Refuses, Added, Sofar, AtStart, Reached, Passed, Refused, Concluded, OnePass}
 use Rattle.steps.specs.States.{state_of}
 use Rattle.steps.specs.Steps.{Given, number_of, row_given, rows_of, Does}
 use Rattle.blocks.specs.Stack.{Block, blocks_of, opens_of}
 use Rattle.blocks.proofs.Opened.{nothing_open}
 use Rattle.statements.specs.Opened.{Sound}
+use Rattle.statements.specs.declared.outcome.Accepted.{Accepted}
 use Rattle.statements.specs.declared.outcome.Refusal as answers
 use Rattle.statements.specs.declared.outcome.Refusal.TheVariants.{EndsEarly}
 use Rattle.statements.specs.declared.cursor.Cursor.{Cursor}
@@ -237,43 +238,37 @@ module _ {label before out out' : List ℕ} {t : State} {b : Blocks} {at n n' to
 judge : {label : List ℕ} {z : Outcome} → Goes base machine.at_statement rule.outside 0 label z → Judged base label z
 judge g = judged base (gather base g)
 
-refuses : {label out : List ℕ} {c p : ℕ} {r : answers.Refusal} {full : Cursor} → Goes base machine.at_statement rule.outside 0 label (refused c p) → Refuses c p r → Reached label out full →
-    Refused label out r
-refuses g d h = let j = judge g in let k = judged_code j in record { code = _; place = _; judged = j; from = k.0; is = d.is k.0 k.1; full = _; reached = h }
+refuses : {label : List ℕ} {c p : ℕ} {r : answers.Refusal} → Goes base machine.at_statement rule.outside 0 label (refused c p) → Refuses c p r → Refused label r
+refuses g d = let j = judge g in let k = judged_code j in record { code = _; place = _; judged = j; from = k.0; is = d.is k.0 k.1 }
 
 -- where no element comes, nothing is left but a gap
 pub none_there : (label : List ℕ) (at : ℕ) (o : Option Found) → NextAt label at (Ok o) → ((f : Found) → o ≡ Some f → ⊥) → found.NextIs base (drop at label) found.none_left
 none_there label at None x h = x
 none_there label at (Some f) x h = absurd (h f refl)
 
-module _ {label before out : List ℕ} {t : State} {b : Blocks} {at n : ℕ} {full : Cursor} where
-  pub early : Noting label before out t b at n full → found.NextIs base (drop at label) found.none_left → Refused label out (EndsEarly (length label))
-  early held x =
-      let s = held.running in
-      refuses (s.sofar.on (refused 10 (length label)) (end_turn label at s.going s.sofar.within x)) (record { is = λ y z. refl }) held.reached
-
-  pub faulty : {f : Broken} {r : answers.Refusal} → Noting label before out t b at n full → FaultNext label at f → Refuses (code_of f.0) f.1 r → Refused label out r
-  faulty {f} held x d =
-      let s = held.running in
-      refuses (s.sofar.on (refused (code_of f.0) f.1) (fault_turn s.going x)) d held.reached
-
-  pub refused_there : {e : Element} {to p : ℕ} {w : Result Stepped Misfit} {m : Misfit} {r : answers.Refusal} → Noting label before out t b at n full → ElementNext label at (e, to) →
-      Does label t (state_of label t) e w → w ≡ Err m → p ≡ place_of e → Refuses (number_of m) p r → Refused label out r
-  refused_there {e} {m} held x y k i d =
-      let s = held.running in
-      refuses (rw i (s.sofar.on (refused (number_of m) (place_of e)) (refuse_turn s.going x (turn_stop y s.sound k)))) d held.reached
-
 module _ {label before out : List ℕ} {t : State} {b : Blocks} {at n : ℕ} where
-  pub accepted_there : {e : Element} {to a n' : ℕ} {w : Stepped} {v : Row} {out' : List ℕ} {r : Run} → Noting label before out t b at n r.full → ElementNext label at (e, to) →
-      Does label t (state_of label t) e (Ok w) → w.row ≡ Some v → v ≡ rows.Last a → Added (table (rows_of (row_given w.row))) n out out' n' → r.accepted ≡ record { place = to; length = n' } →
-      Passed label before out' r
-  accepted_there {e} {to} {n' = n'} {w = w} held x m g k d q =
-      let s = held.running in
+  pub early : Running label before out t b at n → found.NextIs base (drop at label) found.none_left → Refused label (EndsEarly (length label))
+  early s x = refuses (s.sofar.on (refused 10 (length label)) (end_turn label at s.going s.sofar.within x)) (record { is = λ y z. refl })
+
+  pub faulty : {f : Broken} {r : answers.Refusal} → Running label before out t b at n → FaultNext label at f → Refuses (code_of f.0) f.1 r → Refused label r
+  faulty {f} s x d = refuses (s.sofar.on (refused (code_of f.0) f.1) (fault_turn s.going x)) d
+
+  pub refused_there : {e : Element} {to p : ℕ} {w : Result Stepped Misfit} {m : Misfit} {r : answers.Refusal} → Running label before out t b at n → ElementNext label at (e, to) →
+      Does label t (state_of label t) e w → w ≡ Err m → p ≡ place_of e → Refuses (number_of m) p r → Refused label r
+  refused_there {e} {m = m} s x y k i d = refuses (rw i (s.sofar.on (refused (number_of m) (place_of e)) (refuse_turn s.going x (turn_stop y s.sound k)))) d
+
+  pub accepted_there : {e : Element} {to a n' : ℕ} {w : Stepped} {v : Row} {out' : List ℕ} → Running label before out t b at n → ElementNext label at (e, to) →
+      Does label t (state_of label t) e (Ok w) → w.row ≡ Some v → v ≡ rows.Last a → Added (table (rows_of (row_given w.row))) n out out' n' → Passed label before out' (record { place = to; length = n' })
+  accepted_there {e} {to} {n' = n'} {w = w} s x m g k d =
       let y : Sofar label (s.rs ++ rows_of (row_given w.row)) w.state b to n' = goes_on (row_given w.row) s x (turn_last m s.sound g k) d in
       record {
         rows = s.rs ++ rows_of (row_given w.row);
-        judged = rw q (judge (rw (append-nil (s.rs ++ rows_of (row_given w.row))) at (y.on (accepted [] to) (now (at_the_end (last_state m g k))))));
-        count = rw q y.count;
-        bytes = rw q (stores (row_given w.row) s d);
-        full = still_reached held.reached held.behind d;
+        judged = judge (rw (append-nil (s.rs ++ rows_of (row_given w.row))) at (y.on (accepted [] to) (now (at_the_end (last_state m g k)))));
+        count = y.count;
+        bytes = stores (row_given w.row) s d;
       }
+
+-- what a pass hands back
+pub hands_back : {label before out : List ℕ} {x : Result Accepted answers.Refusal} {c : Cursor} {r : Run} → (r.answer ≡ x) × (r.full ≡ c) → Concluded label before out x → Reached label out c →
+    OnePass label before out r
+hands_back e p s = record { concluded = rw e.0 p; full = rw e.1 s }

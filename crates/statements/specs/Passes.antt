@@ -14,6 +14,7 @@ use Rattle.blocks.specs.Stack.{blocks_of, no_blocks, opens_of}
 use Rattle.blocks.specs.declared.Blocks.{Blocks}
 use Rattle.statements.specs.Answer.{refusal_said}
 use Rattle.statements.specs.Opened.{Sound}
+use Rattle.statements.specs.declared.outcome.Accepted.{Accepted}
 use Rattle.statements.specs.declared.outcome.Refusal as answers
 use Rattle.statements.specs.declared.cursor.Cursor.{Cursor}
 use Rattle.statements.specs.declared.passes.Run.{Run}
@@ -55,24 +56,26 @@ pub record Reached (label room : List ℕ) (c : Cursor) : Type 0 where
   pub fits : c.n ≤ length room
   pub bytes : take c.n room ≡ table rs
 
--- a label passed to END: the rows' table where it fits the room, and a place from which a reading may go on in the room as it was left
-pub record Passed (label before after : List ℕ) (r : Run) : Type 0 where
+-- a label that is accepted: the rows' table where it fits the room
+pub record Passed (label before after : List ℕ) (a : Accepted) : Type 0 where
   pub rows : List rule.Row
-  pub judged : Judged base label (accepted rows r.accepted.place)
-  pub count : r.accepted.length ≡ length (table rows)
-  pub bytes : r.accepted.length ≤ length before → after ≡ table rows ++ drop r.accepted.length before
-  pub full : Reached label after r.full
+  pub judged : Judged base label (accepted rows a.place)
+  pub count : a.length ≡ length (table rows)
+  pub bytes : a.length ≤ length before → after ≡ table rows ++ drop a.length before
 
--- a label that is refused at its first fault, and a place from which a reading may go on in the room as it was left
-pub record Refused (label after : List ℕ) (r : answers.Refusal) : Type 0 where
+-- a label that is refused
+pub record Refused (label : List ℕ) (r : answers.Refusal) : Type 0 where
   pub code : ℕ
   pub place : ℕ
   pub judged : Judged base label (refused code place)
   pub from : 2 ≤ code
   pub is : refusal_said r ≡ says code place 0
-  pub full : Cursor
-  pub reached : Reached label after full
 
--- what one pass answers
-abbrev pub OnePass : List ℕ → List ℕ → List ℕ → Result Run answers.Refusal → Type 0
-OnePass label before after r = MatchResult r (Passed label before after) (Refused label after)
+-- a pass's answer
+abbrev pub Concluded : List ℕ → List ℕ → List ℕ → Result Accepted answers.Refusal → Type 0
+Concluded label before after r = MatchResult r (Passed label before after) (Refused label)
+
+-- a pass: its answer, and a place from which a reading may go on in the room as it was left
+pub record OnePass (label before after : List ℕ) (r : Run) : Type 0 where
+  pub concluded : Concluded label before after r.answer
+  pub full : Reached label after r.full

@@ -25,8 +25,8 @@ pub fn read(label: &[u8], table: &mut [u8]) -> Result<Accepted, Refusal>
         return Err(Refusal::TooLong);
     }
     let mut own = [0u8; OWN_ROOM];
-    let first = pass(label, &mut own, start())?;
-    let a = first.accepted;
+    let first = pass(label, &mut own, start());
+    let a = first.answer?;
     let n = a.length;
     if table.len() < n {
         return Err(Refusal::NoRoom(a));
@@ -38,6 +38,6 @@ pub fn read(label: &[u8], table: &mut [u8]) -> Result<Accepted, Refusal>
     let full = first.full;
     let k = full.n;
     put_bytes(table, &own[0..k]);
-    let rest = pass(label, table, full)?;
-    Ok(rest.accepted)
+    let rest = pass(label, table, full);
+    rest.answer
 }

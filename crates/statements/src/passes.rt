@@ -1,5 +1,5 @@
 // One pass over the label: each element stepped over, what it gives added to the table, and the blocks opened and closed as rows ask.
-ghost use Rattle.std.specs.Prelude.{◌*◌, ◌≤◌, length};
+ghost use Rattle.std.specs.Prelude.{◌≡◌, ◌*◌, ◌≤◌, length};
 ghost use Rattle.rules.specs.Reading.{longest};
 ghost use Rattle.rules.specs.Table.{encode, table};
 ghost use Rattle.rows.specs.Rows.{row_of, longest_row};
@@ -15,10 +15,10 @@ use elements::{Broken, Fault, Found, next};
 use rows::{LONGEST_ROW, Row, encode, encoded_len};
 use steps::{Misfit, start_of, step};
 
-// A label that was passed to its end; and where the room was full, the last place where the table so far fitted it, if it came to be longer.
+// The answer of a pass; and where the room was full, the last place where the table so far fitted it, if it came to be longer.
 #[derive(Clone, Copy)]
 pub struct Run {
-    pub accepted: Accepted,
+    pub answer: Result<Accepted, Refusal>,
     pub full: Cursor,
 }
 
@@ -77,9 +77,15 @@ fn add_rows(room: &mut [u8], n: usize, given: Option<Row>) -> usize
     }
 }
 
+fn ended(answer: Result<Accepted, Refusal>, full: Cursor) -> Run
+    ensures { (result.answer ≡ answer) × (result.full ≡ full) }
+{
+    Run { answer, full }
+}
+
 // From a cursor on to END or the first fault. The table's bytes are in the room where they fit; where they do not, or on refusal, only those
 // up to `full`, which is noted before the first element whose rows do not fit: none gives more bytes than the longest row has.
-pub fn pass(label: &[u8], room: &mut [u8], from: Cursor) -> Result<Run, Refusal>
+pub fn pass(label: &[u8], room: &mut [u8], from: Cursor) -> Run
     requires { (length label.now ≤ longest) × Reached label.now room.old from }
     ensures { OnePass label.now room.old room.new result }
 {
@@ -92,11 +98,15 @@ pub fn pass(label: &[u8], room: &mut [u8], from: Cursor) -> Result<Run, Refusal>
         if (n <= room.len()) & (room.len() < n + LONGEST_ROW) {
             full = standing(state, blocks, at, n);
         }
-        let Some(Found(e, end)) = next(label, at)? else {
-            return Err(Refusal::EndsEarly(label.len()));
+        let found = match next(label, at) {
+            Err(b) => return ended(Err(Refusal::from(b)), full),
+            Ok(found) => found,
+        };
+        let Some(Found(e, end)) = found else {
+            return ended(Err(Refusal::EndsEarly(label.len())), full);
         };
         match step(label, state, e) {
-            Err(m) => return Err(misfit(m, start_of(e))),
+            Err(m) => return ended(Err(misfit(m, start_of(e))), full),
             Ok(w) => {
                 at = end;
                 n = add_rows(room, n, w.row);
@@ -108,7 +118,7 @@ pub fn pass(label: &[u8], room: &mut [u8], from: Cursor) -> Result<Run, Refusal>
                                 place: end,
                                 length: n,
                             };
-                            return Ok(Run { accepted, full });
+                            return ended(Ok(accepted), full);
                         }
                         Row::Open(k, a, b) => {
                             blocks = push(blocks, k, a, b);

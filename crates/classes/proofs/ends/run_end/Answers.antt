@@ -1,10 +1,16 @@
 -- `ends::run_end` meets its contract.
-use mathlib.Core.Path.{sym, ◌∙◌}
-use Rattle.classes.proofs.Found.{found}
+use mathlib.Core.Path.{refl, sym, ◌∙◌}
+use Rattle.classes.proofs.Runs.{start, turn, stop, last, front_at}
 use Rattle.classes.proofs.ends.run_end.Goals as goal
 
-pub returns-in-Some : goal.returns-in-Some
-returns-in-Some g c = found g.C.Class.holds c.args.s.now c.args.at c.requires _ (sym c.in-Some.is ∙ c.first_outside.ensures)
+pub loop-i-init : goal.loop-i-init
+loop-i-init g c = start _ _ _ c.requires
 
-pub returns-in-None : goal.returns-in-None
-returns-in-None g c = found g.C.Class.holds c.args.s.now c.args.at c.requires _ (sym c.in-None.is ∙ c.first_outside.ensures)
+pub returns-then-not-holds : goal.returns-then-not-holds
+returns-then-not-holds g c = stop _ _ _ _ c.loop-i.invariant (front_at _ _ _ c.loop-i-test.true ∙ sym c.holds.ensures ∙ c.if-not-holds.true)
+
+pub loop-i-preserved : goal.loop-i-preserved
+loop-i-preserved g c = turn _ _ _ _ c.loop-i.invariant c.loop-i-test.true (front_at _ _ _ c.loop-i-test.true ∙ sym c.holds.ensures ∙ c.if-not-holds.false)
+
+pub returns : goal.returns
+returns g c = last _ _ _ _ c.loop-i.invariant c.loop-i-test.false refl

@@ -1,7 +1,6 @@
--- Each turn of the loop is one constructor of the rule.
-use Rattle.rules.specs.Elements.{in_comment}
-use Rattle.classes.proofs.Runs.{Passing}
+-- Each turn of the loop is one constructor of the rule, told at the byte behind.
+use Rattle.elements.proofs.Comments.{Behind}
 use Rattle.elements.proofs.ends.comment_end.Given as goal
 
 abbrev pub invariant-loop-i : goal.invariant-loop-i
-invariant-loop-i l = Passing in_comment l.label l.at l.i
+invariant-loop-i l = Behind l.label l.at l.i l.star
